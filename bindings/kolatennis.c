@@ -50,6 +50,7 @@ typedef struct {
 int escpos_till_open(kolatennis_till *till, const uint8_t *lines, size_t len, uint32_t *reason, size_t *at);
 void escpos_till_free(kolatennis_till *till);
 int escpos_till_queue(kolatennis_till *till, const kolatennis_options *options, const uint8_t *json, size_t json_len, till_told *told);
+int escpos_till_queue_keyed(kolatennis_till *till, const kolatennis_options *options, const uint8_t *json, size_t json_len, const uint8_t *key, size_t key_len, till_told *told);
 int escpos_till_queue_raw(kolatennis_till *till, uint16_t width, const uint8_t *stream, size_t len, till_told *told);
 int escpos_till_raise(kolatennis_till *till, uint32_t first, till_told *told);
 int escpos_till_cancel(kolatennis_till *till, size_t number, till_told *told);
@@ -142,6 +143,7 @@ const char *kolatennis_error_name(uint32_t reason) {
         case KOLATENNIS_TILL_CANCELLED: return "Cancelled";
         case KOLATENNIS_TILL_BAD_COPY: return "BadCopy";
         case KOLATENNIS_TILL_DAMAGED: return "Damaged";
+        case KOLATENNIS_TILL_BAD_KEY: return "BadKey";
         case KOLATENNIS_LINK_ENDED: return "Ended";
         case KOLATENNIS_LINK_READ_FAULT: return "ReadFault";
         case KOLATENNIS_LINK_WRITE_FAULT: return "WriteFault";
@@ -382,6 +384,15 @@ void kolatennis_till_free(kolatennis_till *till) {
 int kolatennis_till_queue(kolatennis_till *till, const kolatennis_options *options, const uint8_t *json, size_t json_len, uint32_t *reason, size_t *at) {
     till_told told = NOTHING_TOLD;
     int status = till && is_buffer(json, json_len) ? escpos_till_queue(till, or_usual(options), or_none(json), json_len, &told) : BAD_ARGUMENT;
+    TELL(reason, till_reason(&told));
+    TELL(at, told.at);
+    return status;
+}
+
+int kolatennis_till_queue_keyed(kolatennis_till *till, const kolatennis_options *options, const uint8_t *json, size_t json_len, const uint8_t *key, size_t key_len, uint32_t *reason, size_t *at) {
+    till_told told = NOTHING_TOLD;
+    bool is_good = till && is_buffer(json, json_len) && is_buffer(key, key_len);
+    int status = is_good ? escpos_till_queue_keyed(till, or_usual(options), or_none(json), json_len, or_none(key), key_len, &told) : BAD_ARGUMENT;
     TELL(reason, till_reason(&told));
     TELL(at, told.at);
     return status;

@@ -107,7 +107,8 @@ enum kolatennis_till_reason {
     KOLATENNIS_TILL_MARK_TOO_HIGH = 709, /* the mark number leaves fewer than a try takes */
     KOLATENNIS_TILL_NOT_TAKEN = 710,     /* no receipt has this number */
     KOLATENNIS_TILL_RECORDED = 711,      /* the receipt is recorded */
-    KOLATENNIS_TILL_CANCELLED = 712      /* the receipt is cancelled already */
+    KOLATENNIS_TILL_CANCELLED = 712,     /* the receipt is cancelled already */
+    KOLATENNIS_TILL_BAD_KEY = 713        /* the key of a receipt isn't 1 to 64 characters, each 21 to 7E (hexadecimal) */
 };
 
 /* Why a link ended; its owner may say the first four. */
@@ -382,7 +383,12 @@ KOLATENNIS_API void kolatennis_till_free(kolatennis_till *till);
  * `reason` is TILL_BUSY or TILL_FAILED. `options` may be NULL. */
 KOLATENNIS_API int kolatennis_till_queue(kolatennis_till *till, const kolatennis_options *options, const uint8_t *json, size_t json_len, uint32_t *reason, size_t *at);
 
-/* The same of a stream of bytes, which is read, and refused, as kolatennis_host_submit_raw does it. */
+/* The same of a receipt that comes with this key, 1 to 64 characters, each 21 to 7E (hexadecimal): an entry with the key is kept before
+ * it. But if a receipt has the key, whatever became of it, that is the one: no entry is kept, and its number is told as NOTE_QUEUED. So a
+ * till that lost the answer may ask again. `reason` may also be TILL_BAD_KEY. */
+KOLATENNIS_API int kolatennis_till_queue_keyed(kolatennis_till *till, const kolatennis_options *options, const uint8_t *json, size_t json_len, const uint8_t *key, size_t key_len, uint32_t *reason, size_t *at);
+
+/* The same as kolatennis_till_queue of a stream of bytes, which is read, and refused, as kolatennis_host_submit_raw does it. */
 KOLATENNIS_API int kolatennis_till_queue_raw(kolatennis_till *till, uint16_t width, const uint8_t *bytes, size_t len, uint32_t *reason, size_t *at);
 
 /* Raises the number of the next mark to `first`, where those below it were used elsewhere. At 1 `reason` is TILL_BUSY, TILL_FAILED;

@@ -735,6 +735,58 @@ static void takes_a_receipt(void) {
     kolatennis_till_free(&till);
 }
 
+static int queues_with(kolatennis_till *till, const char *key, uint32_t *reason, size_t *at) {
+    return CALL(kolatennis_till_queue_keyed(till, NULL, bytes(HI_RECEIPT), 15, bytes(key), strlen(key), reason, at));
+}
+
+#define SIXTY_FOUR FORTY "ABCDEFGHIJKLMNOPQRSTUVWX"
+#define KEY_LINE "key 73616c652d37\n"
+
+static void takes_keys(void) {
+    kolatennis_till till = KOLATENNIS_INIT;
+    uint32_t reason = 77;
+    size_t at = 77;
+    static const char *const NO_KEYS[] = {"", " ", "sale 7", "\x7F", "\xC3\xA9", SIXTY_FOUR "Y"};
+    IS(CALL(kolatennis_till_new(&till)) == KOLATENNIS_STATUS_GOOD);
+    for (size_t row = 0; row < COUNT(NO_KEYS); row++) {
+        reason = at = 77;
+        IS(queues_with(&till, NO_KEYS[row], &reason, &at) == KOLATENNIS_STATUS_REFUSED && reason == KOLATENNIS_TILL_BAD_KEY && at == KOLATENNIS_NO_PLACE);
+        ASKS(&till, NOTHING, 0);
+    }
+    IS(CALL(kolatennis_till_queue_keyed(&till, NULL, bytes("["), 1, bytes("a"), 1, &reason, &at)) == KOLATENNIS_STATUS_REFUSED && reason == KOLATENNIS_RECEIPT_NOT_JSON);
+    IS(CALL(kolatennis_till_queue_keyed(&till, &BAD_OPTIONS[0], bytes("[]"), 2, bytes("a"), 1, &reason, &at)) == KOLATENNIS_STATUS_REFUSED && reason == KOLATENNIS_RECEIPT_BAD_OPTIONS);
+    /* a key that is known adds nothing, and another one is another receipt's */
+    IS(queues_with(&till, "sale-7", &reason, &at) == KOLATENNIS_STATUS_GOOD && reason == 0 && at == KOLATENNIS_NO_PLACE);
+    IS(queues_with(&till, "sale-7", &reason, &at) == KOLATENNIS_STATUS_REFUSED && reason == KOLATENNIS_TILL_BUSY);
+    APPENDS(&till, KEY_LINE);
+    APPENDS(&till, HI_LINE);
+    NOTES(&till, QUEUED, 1, 0);
+    IS(queues_with(&till, "sale-7", &reason, &at) == KOLATENNIS_STATUS_GOOD);
+    NOTES(&till, QUEUED, 1, 0);
+    IS(queues_with(&till, SIXTY_FOUR, &reason, &at) == KOLATENNIS_STATUS_GOOD);
+    IS(CALL(kolatennis_till_append(&till, buffer, CAPACITY, &at)) == KOLATENNIS_STATUS_GOOD && at == 133 && !memcmp(buffer, "key 41", 6));
+    IS(kolatennis_till_appended(&till, true) == KOLATENNIS_STATUS_GOOD);
+    APPENDS(&till, HI_LINE);
+    NOTES(&till, QUEUED, 2, 0);
+    ASKS(&till, NOTHING, 0);
+    kolatennis_till_free(&till);
+    /* a key whose receipt never came is void: the next receipt hasn't got it */
+    IS(opens(&till, HI_LINE KEY_LINE, &reason, &at) == KOLATENNIS_STATUS_GOOD);
+    IS(queues(&till, HI_RECEIPT, &reason, &at) == KOLATENNIS_STATUS_GOOD);
+    APPENDS(&till, "raised 00000000\n");
+    APPENDS(&till, HI_LINE);
+    NOTES(&till, QUEUED, 2, 0);
+    IS(queues_with(&till, "sale-7", &reason, &at) == KOLATENNIS_STATUS_GOOD);
+    APPENDS(&till, KEY_LINE);
+    APPENDS(&till, HI_LINE);
+    NOTES(&till, QUEUED, 3, 0);
+    kolatennis_till_free(&till);
+    IS(opens(&till, KEY_LINE HI_LINE KEY_LINE, &reason, &at) == KOLATENNIS_STATUS_REFUSED && reason == KOLATENNIS_TILL_DAMAGED && at == 2);
+    IS(opens(&till, "key \n", &reason, &at) == KOLATENNIS_STATUS_REFUSED && reason == KOLATENNIS_TILL_DAMAGED && at == 0);
+    IS(opens(&till, "key 20\n", &reason, &at) == KOLATENNIS_STATUS_REFUSED && reason == KOLATENNIS_TILL_DAMAGED && at == 0);
+    IS(opens(&till, "key 7\n", &reason, &at) == KOLATENNIS_STATUS_REFUSED && reason == KOLATENNIS_TILL_DAMAGED && at == 0);
+}
+
 static void delivers_a_receipt(void) {
     kolatennis_till till = waits(0);
     uint32_t reason = 77;
@@ -995,6 +1047,7 @@ static void results_stay(void) {
         IS(kolatennis_printer_take_answer(&printer, buffer, CAPACITY, count_at(0)) == wanted && stays(0, s));
         IS(CALL(kolatennis_printer_paper(&printer, buffer, CAPACITY, count_at(0))) == wanted && stays(0, s));
         IS(CALL(kolatennis_till_queue(&till, &none, bytes("[]"), 2, number_at(0), count_at(1))) == refused && STAY_2(u, s));
+        IS(CALL(kolatennis_till_queue_keyed(&till, &none, bytes("[]"), 2, bytes("a"), 1, number_at(0), count_at(1))) == refused && STAY_2(u, s));
         IS(CALL(kolatennis_till_deliver(&till, 0, NULL, 0, 9, number_at(0), count_at(1))) == refused && STAY_2(u, s));
         IS(CALL(kolatennis_till_raise(&till, 9, number_at(0), number_at(1))) == wanted && STAY_2(u, u));
         IS(kolatennis_till_asks(&till, (kolatennis_asked *)place(0)) == wanted && stays(0, sizeof(kolatennis_asked)));
@@ -1091,6 +1144,7 @@ static void all(void) {
     prints_on_a_width();
     holds_no_printer();
     takes_a_receipt();
+    takes_keys();
     delivers_a_receipt();
     tries_a_receipt();
     tells_pauses();

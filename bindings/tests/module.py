@@ -120,6 +120,7 @@ class Errors(unittest.TestCase):
             (kolatennis.OutOfRange, lambda: kolatennis.Printer(width=0)),
             (kolatennis.Refused, lambda: kolatennis.Till().queue("[")),
             (kolatennis.NotNow, lambda: kolatennis.Till().deliver()),
+            (kolatennis.NotNow, lambda: kolatennis.Till().queue([{"line": "Hi"}], key="sale 7")),
             (kolatennis.NotNow, lambda: kolatennis.Till().line()),
             (kolatennis.NotNow, lambda: kolatennis.Till(b"raised 00000005\n").raise_mark(4)),
             (kolatennis.Damaged, lambda: kolatennis.Till(b"x")),
@@ -156,6 +157,17 @@ class Tills(unittest.TestCase):
         again = kolatennis.Till(keeps(till))
         self.assertEqual(again.state(1), kolatennis.Standing("waiting", 0))
         self.assertEqual((again.state(0), again.state(2)), (kolatennis.Standing("unknown", 0),) * 2)
+
+    def test_a_key_is_one_receipt(self):
+        till, lines = kolatennis.Till(), b""
+        till.queue([{"line": "one"}], key="sale-7")
+        lines += keeps(till) + keeps(till)
+        self.assertEqual(till.receipts, 1)
+        for again in (till, kolatennis.Till(lines)):
+            while again.asks.ask == "tell":
+                again.told()
+            again.queue([{"line": "two"}], key="sale-7")
+            self.assertEqual(again.asks, kolatennis.Asked("tell", "queued", 1))
 
     def test_a_receipt_that_waits_can_be_cancelled(self):
         till, lines = kolatennis.Till(), b""

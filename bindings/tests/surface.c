@@ -147,6 +147,10 @@ static void takes_null_of_a_till(void) {
     IS(kolatennis_till_state(&till, 1, NULL, NULL) == GOOD && kolatennis_till_next_mark(&till, NULL) == GOOD);
     IS(kolatennis_till_is_paused(&till, NULL) == GOOD);
     kolatennis_till_free(&till);
+    IS(kolatennis_till_new(&till) == GOOD && kolatennis_till_queue_keyed(&till, NULL, HI, NULL, 0, &reason, NULL) == REFUSED && reason == KOLATENNIS_TILL_BAD_KEY);
+    IS(kolatennis_till_queue_keyed(&till, NULL, HI, TEXT("a"), NULL, NULL) == GOOD && kolatennis_till_append(&till, buffer, sizeof buffer, NULL) == GOOD);
+    IS(!memcmp(buffer, "key 61\n", 7));
+    kolatennis_till_free(&till);
     IS(kolatennis_till_new(&till) == GOOD && kolatennis_till_queue_raw(&till, 0, NULL, 0, NULL, NULL) == REFUSED);
     IS(kolatennis_till_queue_raw(&till, 0, TEXT("A\x1DV\x01"), &reason, &at) == REFUSED && reason == KOLATENNIS_RECEIPT_MID_LINE && at == 1);
     IS(kolatennis_till_queue_raw(&till, 0, TEXT("Hi\n"), NULL, NULL) == GOOD && kolatennis_till_append(&till, buffer, sizeof buffer, NULL) == GOOD);
@@ -203,6 +207,9 @@ static void refuses_null(void) {
     IS(asked.ask == KOLATENNIS_ASK_NOTHING && asked.note == KOLATENNIS_NOTE_NONE && asked.fault == 0 && asked.number == 0);
     reset();
     IS(kolatennis_till_queue(NULL, NULL, HI, &reason, &at) == BAD && reason == 0 && at == KOLATENNIS_NO_PLACE && kolatennis_till_queue(&till, NULL, NULL, 1, NULL, NULL) == BAD);
+    reset();
+    IS(kolatennis_till_queue_keyed(NULL, NULL, HI, HI, &reason, &at) == BAD && reason == 0 && at == KOLATENNIS_NO_PLACE);
+    IS(kolatennis_till_queue_keyed(&till, NULL, NULL, 1, NULL, 0, NULL, NULL) == BAD && kolatennis_till_queue_keyed(&till, NULL, NULL, 0, NULL, 1, NULL, NULL) == BAD);
     reset();
     IS(kolatennis_till_queue_raw(NULL, 0, HI, &reason, &at) == BAD && reason == 0 && at == KOLATENNIS_NO_PLACE && kolatennis_till_queue_raw(&till, 0, NULL, 1, NULL, NULL) == BAD);
     reset();

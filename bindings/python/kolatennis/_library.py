@@ -79,6 +79,7 @@ _CALLS = {
     "kolatennis_till_open": [_HANDLE, *_BUFFER, _U32, _SIZE],
     "kolatennis_till_free": [_HANDLE],
     "kolatennis_till_queue": [_HANDLE, _OPTIONS, *_BUFFER, _U32, _SIZE],
+    "kolatennis_till_queue_keyed": [_HANDLE, _OPTIONS, *_BUFFER, *_BUFFER, _U32, _SIZE],
     "kolatennis_till_queue_raw": [_HANDLE, ctypes.c_uint16, *_BUFFER, _U32, _SIZE],
     "kolatennis_till_raise": [_HANDLE, ctypes.c_uint32, _U32, _U32],
     "kolatennis_till_cancel": [_HANDLE, ctypes.c_size_t, _U32],

@@ -101,17 +101,25 @@ class Till(_Held):
                 raise Refused(why, place(at.value))
             raise NotNow({**TILL_REASONS, **HOST_REASONS}[reason.value])
 
-    def queue(self, receipt: Receipt, width: int = 512, replacement: Optional[str] = None) -> None:
+    def queue(self, receipt: Receipt, width: int = 512, replacement: Optional[str] = None, key: Optional[str] = None) -> None:
         """Takes a receipt. Raises Refused where it is none, and NotNow where the till is busy or has failed. `width` and `replacement` are
-        those of `encode`.
+        those of `encode`. If a receipt has the `key` already, 1 to 64 characters of ASCII without blanks, that is the one: its number is
+        told, and nothing is kept. So whoever lost the answer may ask again. Raises NotNow where the key is none.
 
         >>> Till().queue([{"fed": 1}])
         Traceback (most recent call last):
         ...
         kolatennis.Refused: BadShape at 0
+        >>> till = Till(b"key 73616c652d37\\nqueued 0200005b7b226c696e65223a20224869227d5d\\n")
+        >>> till.queue([{"line": "Hi"}], key="sale-7"); till.asks
+        Asked(ask='tell', note='queued', number=1, why=None)
         """
         chosen, text = options(width, replacement), as_json(receipt)
-        self._does(library.kolatennis_till_queue, ctypes.byref(chosen), text, len(text))
+        if key is None:
+            self._does(library.kolatennis_till_queue, ctypes.byref(chosen), text, len(text))
+            return
+        given = key.encode("utf-8", "surrogatepass")
+        self._does(library.kolatennis_till_queue_keyed, ctypes.byref(chosen), text, len(text), given, len(given))
 
     def queue_raw(self, stream: Bytes, width: int = 512) -> None:
         """Takes a stream of bytes, as another library makes it, as a receipt; as `Host.submit_raw` reads and refuses it.

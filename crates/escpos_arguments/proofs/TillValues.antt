@@ -8,6 +8,7 @@ use Rattle.escpos_arguments.specs.ClapAnswers.{IsNumberIn}
 use Rattle.escpos_arguments.proofs.TaskValues.{no_error, number_in}
 use Rattle.escpos_arguments.specs.TillArguments.{AsksTillBy, IsTillInRange}
 use Rattle.escpos_till.specs.Copy.{IsCopyText}
+use Rattle.escpos_till.specs.Keys.{IsKey}
 use Rattle.escpos_jobs.specs.Address.{IsAddress}
 use Rattle.escpos_jobs.specs.declared.address.Address.{Address}
 use Rattle.escpos_jobs.specs.declared.task.NoTask.{NoTask}
@@ -18,8 +19,8 @@ use Rattle.escpos_till_jobs.specs.declared.task.TillTask.TheVariants.{Queue, Que
 -- An address that is asked for is taken.
 pub taken_address : (rows : List Row) (task : TillTask) (r : Result Address NoTask) (why : NoTask) → AsksTillBy (codes "deliver") rows task → r ≡ Err why
     → ((a : Address) → IsSomeAnd (first_of (codes "address") rows) (λ text. IsAddress text a) → r ≡ Ok a) → ⊥
-taken_address rows (Queue ledger options) r why asks is taken = let bad = asks.0 in absurd cc
-taken_address rows (QueueRaw ledger width) r why asks is taken = let bad = asks.0 in absurd cc
+taken_address rows (Queue ledger options key) r why asks is taken = let bad = asks.0 in absurd cc
+taken_address rows (QueueRaw ledger width key) r why asks is taken = let bad = asks.0 in absurd cc
 taken_address rows (QueueAgain ledger number) r why asks is taken = let bad = asks.0 in absurd cc
 taken_address rows (Deliver ledger d) r why asks is taken =
     let (name, path, address, openings, patience, copy, none) = asks in
@@ -33,8 +34,8 @@ taken_address rows (listing ledger first) r why asks is taken = let bad = asks.0
 -- A wait that is asked for is taken.
 pub taken_wait : (rows : List Row) (task : TillTask) (r : Result (Option ℕ) NoTask) (why : NoTask) → AsksTillBy (codes "deliver") rows task → IsTillInRange task → r ≡ Err why
     → ((wait : Option ℕ) → IsNumberIn (one_of (codes "wait") rows) wait → IfSome wait IsWait → r ≡ Ok wait) → ⊥
-taken_wait rows (Queue ledger options) r why asks range is taken = let bad = asks.0 in absurd cc
-taken_wait rows (QueueRaw ledger width) r why asks range is taken = let bad = asks.0 in absurd cc
+taken_wait rows (Queue ledger options key) r why asks range is taken = let bad = asks.0 in absurd cc
+taken_wait rows (QueueRaw ledger width key) r why asks range is taken = let bad = asks.0 in absurd cc
 taken_wait rows (QueueAgain ledger number) r why asks range is taken = let bad = asks.0 in absurd cc
 taken_wait rows (Deliver ledger d) r why asks range is taken =
     let (name, path, address, openings, patience, copy, none) = asks in
@@ -49,19 +50,36 @@ taken_wait rows (listing ledger first) r why asks range is taken = let bad = ask
 -- The number of a receipt that is to be taken once more is taken.
 pub taken_again : (rows : List Row) (task : TillTask) (r : Result (Option ℕ) NoTask) (why : NoTask) → AsksTillBy (codes "queue") rows task → IsTillInRange task → r ≡ Err why
     → ((again : Option ℕ) → IsNumberIn (one_of (codes "again") rows) again → IfSome again (λ n. 0 < n) → r ≡ Ok again) → ⊥
-taken_again rows (Queue ledger options) r why asks range is taken =
-    let (name, path, none, gives, bare) = asks in
+taken_again rows (Queue ledger options key) r why asks range is taken =
+    let (name, path, none, gives, bare, is_key) = asks in
     no_error r None why (taken None (subst (λ o. IsNumberIn o None) (sym none) refl) tt) is
-taken_again rows (QueueRaw ledger width) r why asks range is taken =
-    let (name, path, none, dots, replaced, raw) = asks in
+taken_again rows (QueueRaw ledger width key) r why asks range is taken =
+    let (name, path, none, dots, replaced, raw, is_key) = asks in
     no_error r None why (taken None (subst (λ o. IsNumberIn o None) (sym none) refl) tt) is
 taken_again rows (QueueAgain ledger number) r why asks range is taken =
-    let (name, path, given, none, bare) = asks in
+    let (name, path, given, none, bare, keyless) = asks in
     no_error r (Some number) why (taken (Some number) (number_in _ number given) range) is
 taken_again rows (Deliver ledger d) r why asks range is taken = let bad = asks.0 in absurd cc
 taken_again rows (DeliverWithin ledger d wait) r why asks range is taken = let bad = asks.0 in absurd cc
 taken_again rows (Cancel ledger number) r why asks range is taken = let bad = asks.0 in absurd cc
 taken_again rows (listing ledger first) r why asks range is taken = let bad = asks.0 in absurd cc
+
+-- A key that is given is taken.
+pub taken_key : (rows : List Row) (task : TillTask) (r : Result (Option (List ℕ)) NoTask) (why : NoTask) → AsksTillBy (codes "queue") rows task → IsTillInRange task → r ≡ Err why
+    → ((key : Option (List ℕ)) → first_of (codes "key") rows ≡ key → IfSome key IsKey → r ≡ Ok key) → ⊥
+taken_key rows (Queue ledger options key) r why asks range is taken =
+    let (name, path, none, gives, bare, is_key) = asks in
+    no_error r key why (taken key is_key range.1) is
+taken_key rows (QueueRaw ledger width key) r why asks range is taken =
+    let (name, path, none, dots, replaced, raw, is_key) = asks in
+    no_error r key why (taken key is_key range.1) is
+taken_key rows (QueueAgain ledger number) r why asks range is taken =
+    let (name, path, given, none, bare, keyless) = asks in
+    no_error r None why (taken None keyless tt) is
+taken_key rows (Deliver ledger d) r why asks range is taken = let bad = asks.0 in absurd cc
+taken_key rows (DeliverWithin ledger d wait) r why asks range is taken = let bad = asks.0 in absurd cc
+taken_key rows (Cancel ledger number) r why asks range is taken = let bad = asks.0 in absurd cc
+taken_key rows (listing ledger first) r why asks range is taken = let bad = asks.0 in absurd cc
 
 -- The task with the values that were read.
 abbrev pub delivery_task : List ℕ → Delivery → Option ℕ → TillTask
@@ -87,8 +105,8 @@ pub taken_task : (rows : List Row) (task : TillTask) (ledger : List ℕ) (a : Ad
     → ((text : Option (List ℕ)) → first_of (codes "copy") rows ≡ text → IfSome text IsCopyText → copy ≡ text)
     → ((other : Option ℕ) → IsNumberIn (one_of (codes "wait") rows) other → IfSome other IsWait → wait ≡ other)
     → delivery_task ledger (record { address = a; openings = n; patience = s; copy = copy }) wait ≡ task
-taken_task rows (Queue path options) ledger a n s copy wait asks range l b m p k w = let bad = asks.0 in absurd cc
-taken_task rows (QueueRaw path width) ledger a n s copy wait asks range l b m p k w = let bad = asks.0 in absurd cc
+taken_task rows (Queue path options key) ledger a n s copy wait asks range l b m p k w = let bad = asks.0 in absurd cc
+taken_task rows (QueueRaw path width key) ledger a n s copy wait asks range l b m p k w = let bad = asks.0 in absurd cc
 taken_task rows (QueueAgain path number) ledger a n s copy wait asks range l b m p k w = let bad = asks.0 in absurd cc
 taken_task rows (Deliver path d) ledger a n s copy wait asks range l b m p k w =
     let (name, is_path, address, openings, patience, is_copy, none) = asks in

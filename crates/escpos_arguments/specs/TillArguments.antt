@@ -11,6 +11,7 @@ use Rattle.escpos_arguments.specs.Arguments.{IsNumberOr, IsOptions, IsWait, Give
 use Rattle.escpos_arguments.specs.ClapAnswers.{IsNumber, IsNumberIn}
 use Rattle.escpos_jobs.specs.Address.{IsAddress}
 use Rattle.escpos_till.specs.Copy.{IsCopyText}
+use Rattle.escpos_till.specs.Keys.{IsKey}
 use Rattle.escpos_till_jobs.specs.declared.task.TillTask.{TillTask}
 use Rattle.escpos_till_jobs.specs.declared.task.TillTask.TheVariants.{Queue, QueueAgain, QueueRaw, Deliver, DeliverWithin, Cancel, List as listing}
 
@@ -22,22 +23,25 @@ till_names = codes "queue" ∷ codes "deliver" ∷ codes "cancel" ∷ codes "led
 
 -- this name, with the values that were given after it, asks for the task
 abbrev pub AsksTillBy : Text → List Row → TillTask → Type 0
-AsksTillBy name rows (Queue ledger options) = (name ≡ codes "queue")
+AsksTillBy name rows (Queue ledger options key) = (name ≡ codes "queue")
     × (first_of (codes "ledger") rows ≡ Some ledger)
     × (one_of (codes "again") rows ≡ None)
     × GivesOptions rows options
     × (¬ HasRaw rows)
-AsksTillBy name rows (QueueRaw ledger width) = (name ≡ codes "queue")
+    × (first_of (codes "key") rows ≡ key)
+AsksTillBy name rows (QueueRaw ledger width key) = (name ≡ codes "queue")
     × (first_of (codes "ledger") rows ≡ Some ledger)
     × (one_of (codes "again") rows ≡ None)
     × IsNumberOr USUAL_LINE_DOTS (one_of (codes "width") rows) width
     × HasNoReplacement rows
     × HasRaw rows
+    × (first_of (codes "key") rows ≡ key)
 AsksTillBy name rows (QueueAgain ledger number) = (name ≡ codes "queue")
     × (first_of (codes "ledger") rows ≡ Some ledger)
     × IsSomeAnd (one_of (codes "again") rows) (λ text. IsNumber text number)
     × HasNoOptions rows
     × (¬ HasRaw rows)
+    × (first_of (codes "key") rows ≡ None)
 AsksTillBy name rows (Deliver ledger delivery) = (name ≡ codes "deliver")
     × (first_of (codes "ledger") rows ≡ Some ledger)
     × IsSomeAnd (first_of (codes "address") rows) (λ text. IsAddress text delivery.address)
@@ -65,8 +69,8 @@ AsksTill found task = IsSomeAnd found (λ p. AsksTillBy p.0 p.1 task)
 
 -- the values of the task are in range
 abbrev pub IsTillInRange : TillTask → Type 0
-IsTillInRange (Queue ledger options) = IsOptions options
-IsTillInRange (QueueRaw ledger width) = IsTrue (is_line_width width)
+IsTillInRange (Queue ledger options key) = IsOptions options × IfSome key IsKey
+IsTillInRange (QueueRaw ledger width key) = IsTrue (is_line_width width) × IfSome key IsKey
 IsTillInRange (QueueAgain ledger number) = 0 < number
 IsTillInRange (Deliver ledger delivery) = (1 ≤ delivery.openings) × (delivery.openings ≤ MOST_OPENINGS) × IsWait delivery.patience × IfSome delivery.copy IsCopyText
 IsTillInRange (DeliverWithin ledger delivery wait) = (1 ≤ delivery.openings) × (delivery.openings ≤ MOST_OPENINGS) × IsWait delivery.patience × IfSome delivery.copy IsCopyText × IsWait wait
@@ -85,8 +89,8 @@ number_rule = record (new_rule (codes "number")) { required = true; action = Som
 
 -- what may follow `queue`
 abbrev pub queue_words : Shape
-queue_words = (with_rule (with_rule (with_rule (with_rule (with_rule (new_app (codes "queue")) ledger_rule) width_rule) replace_rule) (option_rule (codes "again") false))
-    (flag_rule (codes "raw"))).top
+queue_words = (with_rule (with_rule (with_rule (with_rule (with_rule (with_rule (new_app (codes "queue")) ledger_rule) width_rule) replace_rule) (option_rule (codes "again") false))
+    (option_rule (codes "key") false)) (flag_rule (codes "raw"))).top
 
 -- what may follow `deliver`
 abbrev pub deliver_words : Shape

@@ -88,7 +88,7 @@ _escpos_cli() {
         send) given='--first --openings --wait --width --replace --help' ;;
         status | probe) given='--wait --help' ;;
         loop) given='--width --help' ;;
-        queue) given='--raw --width --replace --again --help' ;;
+        queue) given='--raw --width --replace --again --key --help' ;;
         deliver) given='--openings --copy --wait --patience --help' ;;
         cancel) given='--help' ;;
         ledger) given='--first --help' ;;
@@ -137,7 +137,7 @@ emulate) compadd -- --links --follow --condition --condition-file --width --help
 send) compadd -- --first --openings --wait --width --replace --help ;;
 status | probe) compadd -- --wait --help ;;
 loop) compadd -- --width --help ;;
-queue) compadd -- --raw --width --replace --again --help ;;
+queue) compadd -- --raw --width --replace --again --key --help ;;
 deliver) compadd -- --openings --copy --wait --patience --help ;;
 cancel) compadd -- --help ;;
 ledger) compadd -- --first --help ;;
@@ -192,6 +192,7 @@ complete -c escpos_cli -n '__fish_seen_subcommand_from loop' -l width -x
 complete -c escpos_cli -n '__fish_seen_subcommand_from queue' -l width -x
 complete -c escpos_cli -n '__fish_seen_subcommand_from queue' -l replace -x
 complete -c escpos_cli -n '__fish_seen_subcommand_from queue' -l again -x
+complete -c escpos_cli -n '__fish_seen_subcommand_from queue' -l key -x
 complete -c escpos_cli -n '__fish_seen_subcommand_from queue' -l raw
 complete -c escpos_cli -n '__fish_seen_subcommand_from deliver' -l openings -x
 complete -c escpos_cli -n '__fish_seen_subcommand_from deliver' -l copy -x

@@ -1,13 +1,14 @@
 //! The arguments of `queue`: a receipt, or a stream of bytes, is read and taken, or one that was taken is taken once more.
 
-ghost use Rattle.std.specs.Prelude.{◌≡◌, ◌<◌, ℕ, Ok, Option, IfErr, IfOk, IfSome, IsTrue, codes};
-ghost use Rattle.clap.specs.Words.{found_of, one_of, rows_of};
+ghost use Rattle.std.specs.Prelude.{◌≡◌, ◌<◌, ℕ, None, Ok, Option, IfErr, IfOk, IfSome, IsTrue, codes};
+ghost use Rattle.clap.specs.Words.{Text, first_of, found_of, one_of, rows_of};
 ghost use Rattle.escpos_arguments.specs.Arguments.{GivesOptions, HasNoOptions, HasNoReplacement, IsNumberOr, IsOptions};
 ghost use Rattle.escpos_arguments.specs.ClapAnswers.{IsNumberIn};
 ghost use Rattle.escpos_arguments.specs.TillArguments.{AsksTillBy, IsTillInRange};
 ghost use Rattle.escpos_command.specs.LineWidths.{is_line_width};
 ghost use Rattle.escpos_command.specs.declared.line_width.TheConstants.{USUAL_LINE_DOTS};
 ghost use Rattle.escpos_receipt.specs.declared.options.ReceiptOptions.{ReceiptOptions as Options};
+ghost use Rattle.escpos_till.specs.Keys.{IsKey};
 ghost use Rattle.escpos_till_jobs.specs.declared.task.TillTask.{TillTask};
 
 use crate::arguments::{has_flag, number_given};
@@ -15,7 +16,7 @@ use crate::options::{options_given, options_or_usual};
 use crate::till::ledger_path;
 use clap::ArgMatches;
 use escpos_jobs::task::NoTask;
-use escpos_till::ReceiptNumber;
+use escpos_till::{ReceiptKey, ReceiptNumber};
 use escpos_till_jobs::{LedgerPath, TillTask};
 
 // The task of `queue` with the arguments that follow it.
@@ -28,46 +29,60 @@ pub(crate) fn queue_asked<'a>(given: &ArgMatches<'a>) -> Result<TillTask<'a>, No
 {
     let ledger = ledger_path(given)?;
     let raw = has_flag(given, "raw");
+    let key = key_given(given)?;
     match again_given(given)? {
         Some(_) if raw => Err(NoTask::Usage),
-        Some(number) => again_asked(given, ledger, number),
-        None if raw => raw_asked(given, ledger),
-        None => read_asked(given, ledger),
+        Some(number) => again_asked(given, ledger, number, key),
+        None if raw => raw_asked(given, ledger, key),
+        None => read_asked(given, ledger, key),
     }
 }
 
-// The task to take the receipt with this number once more. It has its options already, so none may be given.
+// The task to take the receipt with this number once more. It has its options already, and has no key, so none may be given.
 fn again_asked<'a>(
     given: &ArgMatches<'a>,
     ledger: LedgerPath<'a>,
     number: ReceiptNumber,
+    key: Option<ReceiptKey>,
 ) -> Result<TillTask<'a>, NoTask>
-    ensures asks { IfOk result (λ task. (task ≡ TillTask.QueueAgain ledger.entry number) × HasNoOptions (rows_of (found_of given.now))) }
-    ensures taken { HasNoOptions (rows_of (found_of given.now)) → result ≡ Ok (TillTask.QueueAgain ledger.entry number) }
+    ensures asks { IfOk result (λ task. (task ≡ TillTask.QueueAgain ledger.entry number) × HasNoOptions (rows_of (found_of given.now)) × (key ≡ None)) }
+    ensures taken { HasNoOptions (rows_of (found_of given.now)) → key ≡ None → result ≡ Ok (TillTask.QueueAgain ledger.entry number) }
     ensures usage { IfErr result (λ why. why ≡ NoTask.Usage) }
 {
     match options_given(given)? {
-        Some(_) => Err(NoTask::Usage),
-        None => Ok(TillTask::QueueAgain { ledger, number }),
+        None if key.is_none() => Ok(TillTask::QueueAgain { ledger, number }),
+        _ => Err(NoTask::Usage),
     }
 }
 
 // The task to read a receipt and take it.
-fn read_asked<'a>(given: &ArgMatches<'a>, ledger: LedgerPath<'a>) -> Result<TillTask<'a>, NoTask>
-    ensures asks { IfOk result (λ task. (options : Options) × (task ≡ TillTask.Queue ledger.entry options) × GivesOptions (rows_of (found_of given.now)) options × IsOptions options) }
-    ensures taken { (options : Options) → GivesOptions (rows_of (found_of given.now)) options → IsOptions options → result ≡ Ok (TillTask.Queue ledger.entry options) }
+fn read_asked<'a>(
+    given: &ArgMatches<'a>,
+    ledger: LedgerPath<'a>,
+    key: Option<ReceiptKey>,
+) -> Result<TillTask<'a>, NoTask>
+    ensures asks { IfOk result (λ task. (options : Options) × (task ≡ TillTask.Queue ledger.entry options key) × GivesOptions (rows_of (found_of given.now)) options × IsOptions options) }
+    ensures taken { (options : Options) → GivesOptions (rows_of (found_of given.now)) options → IsOptions options → result ≡ Ok (TillTask.Queue ledger.entry options key) }
     ensures usage { IfErr result (λ why. why ≡ NoTask.Usage) }
 {
     let options = options_or_usual(given)?;
-    Ok(TillTask::Queue { ledger, options })
+    Ok(TillTask::Queue {
+        ledger,
+        options,
+        key,
+    })
 }
 
 // The task to read a stream of bytes and take it. It has no characters to replace, so no replacement may be given.
-fn raw_asked<'a>(given: &ArgMatches<'a>, ledger: LedgerPath<'a>) -> Result<TillTask<'a>, NoTask>
-    ensures asks { IfOk result (λ task. (width : ℕ) × (task ≡ TillTask.QueueRaw ledger.entry width) × IsNumberOr USUAL_LINE_DOTS (one_of (codes "width") (rows_of (found_of given.now))) width
+fn raw_asked<'a>(
+    given: &ArgMatches<'a>,
+    ledger: LedgerPath<'a>,
+    key: Option<ReceiptKey>,
+) -> Result<TillTask<'a>, NoTask>
+    ensures asks { IfOk result (λ task. (width : ℕ) × (task ≡ TillTask.QueueRaw ledger.entry width key) × IsNumberOr USUAL_LINE_DOTS (one_of (codes "width") (rows_of (found_of given.now))) width
         × HasNoReplacement (rows_of (found_of given.now)) × IsTrue (is_line_width width)) }
     ensures taken { (width : ℕ) → IsNumberOr USUAL_LINE_DOTS (one_of (codes "width") (rows_of (found_of given.now))) width → HasNoReplacement (rows_of (found_of given.now))
-        → IsTrue (is_line_width width) → result ≡ Ok (TillTask.QueueRaw ledger.entry width) }
+        → IsTrue (is_line_width width) → result ≡ Ok (TillTask.QueueRaw ledger.entry width key) }
     ensures usage { IfErr result (λ why. why ≡ NoTask.Usage) }
 {
     let options = options_or_usual(given)?;
@@ -77,6 +92,7 @@ fn raw_asked<'a>(given: &ArgMatches<'a>, ledger: LedgerPath<'a>) -> Result<TillT
     Ok(TillTask::QueueRaw {
         ledger,
         width: options.width,
+        key,
     })
 }
 
@@ -91,6 +107,23 @@ fn again_given(given: &ArgMatches) -> Result<Option<ReceiptNumber>, NoTask>
     match number_given(given, "again")? {
         Some(number) => match ReceiptNumber::new(number as usize) {
             Some(again) => Ok(Some(again)),
+            None => Err(NoTask::Usage),
+        },
+        None => Ok(None),
+    }
+}
+
+// The key of the receipt, if it is given, and a receipt may have it.
+fn key_given(given: &ArgMatches) -> Result<Option<ReceiptKey>, NoTask>
+    ensures read { IfOk result (λ key. first_of (codes "key") (rows_of (found_of given.now)) ≡ key) }
+    ensures range { IfOk result (λ key. IfSome key IsKey) }
+    ensures taken { (key : Option Text) → first_of (codes "key") (rows_of (found_of given.now)) ≡ key → IfSome key IsKey
+        → result ≡ Ok key }
+    ensures usage { IfErr result (λ why. why ≡ NoTask.Usage) }
+{
+    match given.get_str("key") {
+        Some(text) => match ReceiptKey::new(text.as_bytes()) {
+            Some(key) => Ok(Some(key)),
             None => Err(NoTask::Usage),
         },
         None => Ok(None),

@@ -227,6 +227,7 @@ fn queue_command<'a>(alloc: Global) -> Result<Command<'a>, AllocError>
         .arg(option(alloc, "width", false))?
         .arg(option(alloc, "replace", false))?
         .arg(option(alloc, "again", false))?
+        .arg(option(alloc, "key", false))?
         .arg(flag(alloc, "raw"))?;
     Ok(command)
 }

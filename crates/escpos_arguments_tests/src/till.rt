@@ -1,8 +1,9 @@
 //! A till's arguments, and what they ask for.
 
 use crate::support::asking::{Plain, asked_by, printer_address};
-use escpos_arguments::is_till_word;
+use escpos_arguments::{is_till_word, till_task_of};
 use escpos_jobs::task::NoTask;
+use escpos_till_jobs::TillTask;
 use std::alloc::Global;
 use std::process::Abort;
 
@@ -16,6 +17,11 @@ const ADDRESS: &str = "127.0.0.1:9100";
 const LONG: &str = "0123456789 0123456789 0123456789 012345678";
 
 const TOO_LONG: &str = "0123456789 0123456789 0123456789 0123456789";
+
+// A key of 64 characters, the most that one has, and one of 65.
+const LONGEST_KEY: &str = "0123456789-0123456789-0123456789-0123456789-0123456789-012345678";
+
+const TOO_LONG_A_KEY: &str = "0123456789-0123456789-0123456789-0123456789-0123456789-0123456789";
 
 // The arguments after `deliver till 127.0.0.1:9100`, with how many opening marks and how much patience they ask for, and whether for a
 // copy's line.
@@ -75,7 +81,7 @@ fn deliveries_that_wait(rt: HostRuntime) {
     }
 }
 
-const ASKED: [(&'static [&'static str], Result<Plain<'static>, NoTask>); 27] = [
+const ASKED: [(&'static [&'static str], Result<Plain<'static>, NoTask>); 31] = [
     (&["queue", "till"], Ok(Plain::Queue("till", 512, None))),
     (
         &["queue", "a/till.db"],
@@ -103,6 +109,22 @@ const ASKED: [(&'static [&'static str], Result<Plain<'static>, NoTask>); 27] = [
         Ok(Plain::Raw("till", 384)),
     ),
     (&["queue", "till", "--raw", "-h"], Err(NoTask::Help)),
+    (
+        &["queue", "till", "--key", "sale-7"],
+        Ok(Plain::Keyed("till", false)),
+    ),
+    (
+        &["queue", "--key=!", "till", "--width", "384"],
+        Ok(Plain::Keyed("till", false)),
+    ),
+    (
+        &["queue", "till", "--key", LONGEST_KEY, "--replace", "?"],
+        Ok(Plain::Keyed("till", false)),
+    ),
+    (
+        &["queue", "till", "--raw", "--key", "~"],
+        Ok(Plain::Keyed("till", true)),
+    ),
     (
         &["queue", "till", "--again", "1"],
         Ok(Plain::Again("till", 1)),
@@ -145,7 +167,7 @@ const ASKED: [(&'static [&'static str], Result<Plain<'static>, NoTask>); 27] = [
 ];
 
 // Words that ask for nothing.
-const USAGE: [&'static [&'static str]; 69] = [
+const USAGE: [&'static [&'static str]; 80] = [
     &[],
     &["check"],
     &["queue"],
@@ -175,6 +197,17 @@ const USAGE: [&'static [&'static str]; 69] = [
     &["queue", "till", "--again", "1", "--width", "512"],
     &["queue", "till", "--replace", "?", "--again", "1"],
     &["queue", "till", "1", "--again", "1"],
+    &["queue", "till", "--key"],
+    &["queue", "till", "--key", ""],
+    &["queue", "till", "--key", " "],
+    &["queue", "till", "--key", "sale 7"],
+    &["queue", "till", "--key", "é"],
+    &["queue", "till", "--key", "\u{7F}"],
+    &["queue", "till", "--key", TOO_LONG_A_KEY],
+    &["queue", "till", "--key", "a", "--key", "a"],
+    &["queue", "till", "--key", "a", "--again", "1"],
+    &["cancel", "till", "1", "--key", "a"],
+    &["ledger", "till", "--key", "a"],
     &["cancel", "till", "--again", "1"],
     &["deliver"],
     &["deliver", "till"],
@@ -224,6 +257,25 @@ fn words_of_a_till(rt: HostRuntime) {
     }
     for words in &USAGE {
         asks_for(&rt, rt.alloc(), words, Err(NoTask::Usage));
+    }
+}
+
+// The key of a receipt is the one that is given.
+#[test]
+fn keys(rt: HostRuntime) {
+    for text in ["sale-7", "!", LONGEST_KEY] {
+        match till_task_of(rt.alloc(), &["queue", "till", "--key", text]) {
+            Ok(TillTask::Queue { key: Some(key), .. }) => {
+                assert!(&rt; key.bytes() == text.as_bytes())
+            }
+            _ => panic!(&rt; "no key"),
+        }
+        match till_task_of(rt.alloc(), &["queue", "till", "--raw", "--key", text]) {
+            Ok(TillTask::QueueRaw { key: Some(key), .. }) => {
+                assert!(&rt; key.bytes() == text.as_bytes())
+            }
+            _ => panic!(&rt; "no key"),
+        }
     }
 }
 

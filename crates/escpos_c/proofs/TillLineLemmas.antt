@@ -1,9 +1,9 @@
 -- The line of an entry gives the entry back.
-use Rattle.std.proofs.Common.{◌≡◌, ◌∙◌, ◌∷◌, ◌++◌, ℕ, ◌<◌, ◌^◌, List, [], Some, None, refl, ap, arith, zero, suc}
-use Rattle.std.specs.Prelude.{Bool, Option, IfSome, IsTrue, if◌then◌else◌, ◌==◌, true, false}
+use Rattle.std.proofs.Common.{◌≡◌, ◌∙◌, ◌∷◌, ◌++◌, ℕ, ◌<◌, ◌^◌, List, [], Some, None, refl, sym, ap, arith, zero, suc, length}
+use Rattle.std.specs.Prelude.{Bool, Option, IfSome, IsTrue, if◌then◌else◌, ◌==◌, ◌&&◌, nat_le, nat_lt, true, false}
 use Rattle.std.specs.Int.{w16, w32, w64, bytes_high_first, byte_at, to_be_bytes}
 use Rattle.std.proofs.lemmas.Nat.{from_be_bytes-to_be_bytes_2, from_be_bytes-to_be_bytes_4, from_be_bytes-to_be_bytes_8}
-use Rattle.std.specs.List.{AllPass}
+use Rattle.std.specs.List.{AllPass, list_all}
 use Rattle.hex.specs.Hex.{encode_lower, is_hex_digit, IsBytes}
 use Rattle.hex.proofs.HexLemmas.{decode_of-encode_lower, decode_of-ok}
 use Rattle.escpos_command.specs.declared.bytes.TheConstants.{LF}
@@ -11,7 +11,10 @@ use Rattle.escpos_command.specs.LineWidths.{is_line_width}
 use Rattle.escpos_text.specs.Replacements.{is_replacement}
 use Rattle.escpos_till.specs.declared.entry.Entry.{Entry}
 use Rattle.escpos_till.specs.declared.entry.Entry.TheVariants as entry
-use Rattle.escpos_c.specs.TillLines.{IsReal, bytes_in, cancelled_of, entry_in, fields, if_ok, kind_in, line_of, mark_in, number_in, queued_in, queued_of, raised_of, recorded_of, replacement_byte, replacement_in, tried_in, tried_of, width_in, word}
+use Rattle.escpos_till.specs.declared.key.TheConstants.{KEY_CHARACTERS}
+use Rattle.escpos_till.specs.Keys.{IsKey, is_key_character}
+use Rattle.std.proofs.lemmas.List.Sums.{AllPass-from_list_all, list_all-from_AllPass}
+use Rattle.escpos_c.specs.TillLines.{IsReal, bytes_in, cancelled_of, entry_in, fields, if_ok, is_key, key_in, kind_in, line_of, mark_in, number_in, queued_in, queued_of, raised_of, recorded_of, replacement_byte, replacement_in, tried_in, tried_of, width_in, word}
 
 -- ## The fields are bytes
 
@@ -55,6 +58,38 @@ number_back n some h =
 mark_back : (n : ℕ) → n < 2 ^ 32 → mark_in (to_be_bytes w32 n) ≡ Some n
 mark_back n h = ap Some (from_be_bytes-to_be_bytes_4 n h)
 
+three : (a b c : Bool) → a ≡ true → b ≡ true → c ≡ true → (a && b && c) ≡ true
+three a b c p q r = ap (λ x. x && b && c) p ∙ ap (λ x. true && x && c) q ∙ ap (λ x. true && true && x) r
+
+first_of : (a b c : Bool) → (a && b && c) ≡ true → (a ≡ true) × (b ≡ true) × (c ≡ true)
+first_of true true true h = (refl, refl, refl)
+first_of true true false h = absurd (let bad : false ≡ true = h in cc)
+first_of true false c h = absurd (let bad : false ≡ true = h in cc)
+first_of false b c h = absurd (let bad : false ≡ true = h in cc)
+
+pub is_key_so : (key : List ℕ) → IsKey key → is_key key ≡ true
+is_key_so key h =
+    three (nat_lt 0 (length key)) (nat_le (length key) KEY_CHARACTERS) (list_all is_key_character key) (grind (arith, h.some)) (grind (arith, h.short)) (list_all-from_AllPass is_key_character key h.plain)
+
+pub key_so : (key : List ℕ) → is_key key ≡ true → IsKey key
+key_so key h =
+    let parts = first_of (nat_lt 0 (length key)) (nat_le (length key) KEY_CHARACTERS) (list_all is_key_character key) h in
+    record { some = grind (arith, parts.0); short = grind (arith, parts.1); plain = AllPass-from_list_all is_key_character key parts.2 }
+
+key_back : (key : List ℕ) → IsKey key → key_in key ≡ Some (entry.Key key)
+key_back key h = ap (λ b. if b then Some (entry.Key key) else None) (is_key_so key h)
+
+by_test : (key : List ℕ) (b : Bool) → is_key key ≡ b → (IsKey key → ⊥) → key_in key ≡ None
+by_test key true is none = absurd (none (key_so key is))
+by_test key false is none = ap (λ b. if b then Some (entry.Key key) else None) is
+
+-- A key is read where there is one.
+pub key_found : (key : List ℕ) (k : List ℕ) → IsKey key × (k ≡ key) → Some (entry.Key k) ≡ key_in key
+key_found key k (is, same) = ap (λ x. Some (entry.Key x)) same ∙ sym (key_back key is)
+
+pub no_key_found : (key : List ℕ) → (IsKey key → ⊥) → None ≡ key_in key
+no_key_found key none = sym (by_test key (is_key key) refl none)
+
 -- ## The line
 
 bytes_back : (bytes : List ℕ) → IsBytes bytes → bytes_in (encode_lower bytes) ≡ Some bytes
@@ -69,6 +104,7 @@ fields_are_bytes (entry.Tried number next) real = high_bytes 8 number (to_be_byt
 fields_are_bytes (entry.Recorded number) real = high_bytes 8 number [] none_more
 fields_are_bytes (entry.Raised next) real = high_bytes 4 next [] none_more
 fields_are_bytes (entry.Cancelled number) real = high_bytes 8 number [] none_more
+fields_are_bytes (entry.Key key) real = real.1
 
 pub read_back : (e : Entry) → IsReal e → entry_in (line_of e) ≡ Some e
 read_back (entry.Queued content) real =
@@ -90,6 +126,9 @@ read_back (entry.Raised next) real =
 read_back (entry.Cancelled number) real =
     let e = entry.Cancelled number in
     ap (kind_in (λ bytes. cancelled_of (number_in bytes))) (bytes_back (fields e) (fields_are_bytes e real)) ∙ ap cancelled_of (number_back number real.0 real.1)
+read_back (entry.Key key) real =
+    let e = entry.Key key in
+    ap (kind_in key_in) (bytes_back (fields e) (fields_are_bytes e real)) ∙ key_back key real.0
 
 -- ## No LF
 
@@ -126,6 +165,7 @@ word_no_lf (entry.Tried number next) = refl
 word_no_lf (entry.Recorded number) = refl
 word_no_lf (entry.Raised next) = refl
 word_no_lf (entry.Cancelled number) = refl
+word_no_lf (entry.Key key) = refl
 
 -- The line of an entry has no LF but its end.
 pub line_no_lf : (e : Entry) → IsReal e → no_lf (line_of e) ≡ true

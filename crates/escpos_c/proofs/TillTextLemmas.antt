@@ -52,6 +52,10 @@ one_first text m n a b = elim (cases_lt m n) [
   ]
 ]
 
+-- Where the first line is none of an entry, the text begins with no line of one.
+pub stopped_at : (text : List ℕ) (end : ℕ) → IsFirstByte (is_byte LF) text (Some end) → entry_in (take end text) ≡ None → IsNoLine text
+stopped_at text end first none other also = subst (λ k. entry_in (take k text) ≡ None) (one_first text end other first also) none
+
 abbrev value_or : Entry → Option Entry → Entry
 value_or d None = d
 value_or d (Some e) = e

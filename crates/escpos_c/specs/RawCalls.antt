@@ -51,7 +51,7 @@ SubmitsRawAt (Some width) stream status reason fault at old new = SubmitsRaw wid
 -- The receipt of the stream is taken, or the machine refuses it; or it is none, and the machine isn't asked; or memory ran out over it.
 abbrev pub QueuesRaw : ℕ → List ℕ → ℤ → Told → TillCore → TillCore → Type 0
 QueuesRaw width stream status told old new =
-    ((receipt : List Command) × GivesRaw stream receipt × TillCalled (λ m after. Queues m (content_of_stream width stream) after) RefusesAny SameEntries status told old new)
+    ((receipt : List Command) × GivesRaw stream receipt × TillCalled (λ m after. Queues m (content_of_stream width stream) None after) RefusesAny SameEntries status told old new)
     ⊎ ((status ≡ pos 1) × (told.reason ≡ NO_REASON) × IsRawRefusal width stream told.fault told.at × (told.next ≡ 0) × (new ≡ old))
     ⊎ ((status ≡ pos 4) × (told ≡ nothing_told) × (new ≡ old))
 

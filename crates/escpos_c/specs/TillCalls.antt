@@ -12,6 +12,7 @@ use Rattle.escpos_till.specs.declared.machine.TillRefusal.{TillRefusal}
 use Rattle.escpos_till.specs.declared.store.StoreFault.TheVariants as store
 use Rattle.escpos_till.specs.Contents.{content_with}
 use Rattle.escpos_till.specs.Copy.{IsCopyText}
+use Rattle.escpos_till.specs.Keys.{IsKey}
 use Rattle.escpos_till.specs.Machine.{Asks, Cancels, Delivers, Ended, Kept, MachineView, Queues, Raises, RefusesAny, RefusesCancel, RefusesDeliver, RefusesRaise, SameEntries, Unsure, connected, not_connected, put, told}
 use Rattle.escpos_c.specs.declared.call_status.CallStatus.{CallStatus}
 use Rattle.escpos_c.specs.declared.call_status.CallStatus.TheVariants as call
@@ -19,7 +20,7 @@ use Rattle.escpos_c.specs.declared.refusal.TheConstants.{BAD_OPTIONS, NO_REASON,
 use Rattle.escpos_c.specs.declared.till_core.TillCore.{TillCore}
 use Rattle.escpos_c.specs.declared.till_numbers.Asked.{Asked}
 use Rattle.escpos_c.specs.declared.till_numbers.Told.{Told}
-use Rattle.escpos_c.specs.declared.till_numbers.TheConstants.{BAD_COPY, DAMAGED, NOT_TAKEN}
+use Rattle.escpos_c.specs.declared.till_numbers.TheConstants.{BAD_COPY, BAD_KEY, DAMAGED, NOT_TAKEN}
 use Rattle.escpos_c.specs.Buffer.{Given, GivesNone}
 use Rattle.escpos_c.specs.EncodeCalls.{GivesReceipt, IsRefusal}
 use Rattle.escpos_c.specs.Status.{number_of_status}
@@ -53,20 +54,26 @@ TillCalled does refuses keeps status told old new =
 abbrev pub Same : MachineView → MachineView → Type 0
 Same m after = after ≡ m
 
--- The receipt that a text describes is taken, or the machine refuses it; or the text gives no receipt, and the machine isn't asked; or
+-- The receipt that a text describes is taken, with this key or with none, or the machine refuses it; or the text gives no receipt, and the machine isn't asked; or
 -- memory ran out over the text.
-abbrev pub QueuesText : ReceiptOptions → List ℕ → ℤ → Told → TillCore → TillCore → Type 0
-QueuesText options json status told old new =
+abbrev pub QueuesText : ReceiptOptions → List ℕ → Option (List ℕ) → ℤ → Told → TillCore → TillCore → Type 0
+QueuesText options json key status told old new =
     ((receipt : List Command) × GivesReceipt options json receipt
-    × TillCalled (λ m after. Queues m (content_with options json) after) RefusesAny SameEntries status told old new)
+    × TillCalled (λ m after. Queues m (content_with options json) key after) RefusesAny SameEntries status told old new)
     ⊎ ((status ≡ pos 1) × (told.reason ≡ NO_REASON) × IsRefusal options json told.fault told.at × (told.next ≡ 0) × (new ≡ old))
     ⊎ ((status ≡ pos 4) × (told ≡ nothing_told) × (new ≡ old))
 
 -- The same, where the options may be out of range: then it is refused, whatever the text is, and the machine isn't asked.
-abbrev pub QueuesTextWith : Option ReceiptOptions → List ℕ → ℤ → Told → TillCore → TillCore → Type 0
-QueuesTextWith None json status told old new =
+abbrev pub QueuesTextWith : Option ReceiptOptions → List ℕ → Option (List ℕ) → ℤ → Told → TillCore → TillCore → Type 0
+QueuesTextWith None json key status told old new =
     (status ≡ pos 1) × (told.reason ≡ NO_REASON) × (told.fault ≡ BAD_OPTIONS) × (told.at ≡ NO_PLACE) × (told.next ≡ 0) × (new ≡ old)
-QueuesTextWith (Some options) json status told old new = QueuesText options json status told old new
+QueuesTextWith (Some options) json key status told old new = QueuesText options json key status told old new
+
+-- The same with this key; or these bytes are no key, and the machine isn't asked.
+abbrev pub QueuesKeyed : Option ReceiptOptions → List ℕ → List ℕ → ℤ → Told → TillCore → TillCore → Type 0
+QueuesKeyed options json key status told old new =
+    (IsKey key × QueuesTextWith options json (Some key) status told old new)
+    ⊎ ((¬ IsKey key) × (status ≡ pos 1) × (told ≡ refused_for BAD_KEY) × (new ≡ old))
 
 abbrev pub RaisesTo : ℕ → ℤ → Told → TillCore → TillCore → Type 0
 RaisesTo first = TillCalled (λ m after. Raises m first after) (λ m why. RefusesRaise m first why) Same

@@ -1,5 +1,6 @@
 -- The line of text that an entry of a till's ledger is kept as: a word, a blank, and fields in hexadecimal.
-use Rattle.std.specs.Prelude.{ℕ, ◌==◌, ◌<◌, ◌^◌, if◌then◌else◌, Option, None, Some, Result, Ok, Err, List, [], ◌∷◌, ◌++◌, length, take, drop, codes, IfSome, IsTrue}
+use Rattle.std.specs.Prelude.{ℕ, Bool, ◌&&◌, nat_le, nat_lt, ◌==◌, ◌<◌, ◌^◌, if◌then◌else◌, Option, None, Some, Result, Ok, Err, List, [], ◌∷◌, ◌++◌, length, take, drop, codes, IfSome, IsTrue}
+use Rattle.std.specs.List.{list_all}
 use Rattle.std.specs.Int.{w16, w32, w64, from_be_bytes, to_be_bytes}
 use Rattle.hex.specs.declared.error.FromHexError.{FromHexError}
 use Rattle.hex.specs.Hex.{decode_of, encode_lower, IsBytes}
@@ -8,7 +9,9 @@ use Rattle.escpos_command.specs.LineWidths.{is_line_width}
 use Rattle.escpos_text.specs.Replacements.{is_replacement}
 use Rattle.escpos_till.specs.declared.entry.Entry.{Entry}
 use Rattle.escpos_till.specs.declared.entry.Entry.TheVariants as entry
+use Rattle.escpos_till.specs.declared.key.TheConstants.{KEY_CHARACTERS}
 use Rattle.escpos_till.specs.Contents.{content_with}
+use Rattle.escpos_till.specs.Keys.{IsKey, is_key_character}
 
 -- ## The line of an entry
 
@@ -27,12 +30,16 @@ raised_word = codes "raised "
 abbrev pub cancelled_word : List ℕ
 cancelled_word = codes "cancelled "
 
+abbrev pub key_word : List ℕ
+key_word = codes "key "
+
 abbrev pub word : Entry → List ℕ
 word (entry.Queued content) = queued_word
 word (entry.Tried number next) = tried_word
 word (entry.Recorded number) = recorded_word
 word (entry.Raised next) = raised_word
 word (entry.Cancelled number) = cancelled_word
+word (entry.Key key) = key_word
 
 -- The replacement of a receipt's options, and 0 where there is none.
 abbrev pub replacement_byte : Option ℕ → ℕ
@@ -40,13 +47,14 @@ replacement_byte None = 0
 replacement_byte (Some code) = code
 
 -- The bytes of the fields: the width of a line in two and the replacement in one, then the receipt's text; the receipt's number in
--- eight, the next mark number in four.
+-- eight, the next mark number in four; the key.
 abbrev pub fields : Entry → List ℕ
 fields (entry.Queued content) = to_be_bytes w16 content.options.width ++ replacement_byte content.options.replacement ∷ content.text
 fields (entry.Tried number next) = to_be_bytes w64 number ++ to_be_bytes w32 next
 fields (entry.Recorded number) = to_be_bytes w64 number
 fields (entry.Raised next) = to_be_bytes w32 next
 fields (entry.Cancelled number) = to_be_bytes w64 number
+fields (entry.Key key) = key
 
 -- The line of an entry, without its end.
 abbrev pub line_of : Entry → List ℕ
@@ -111,26 +119,35 @@ abbrev pub cancelled_of : Option ℕ → Option Entry
 cancelled_of None = None
 cancelled_of (Some number) = Some (entry.Cancelled number)
 
+-- These bytes are a receipt's key.
+abbrev pub is_key : List ℕ → Bool
+is_key bytes = nat_lt 0 (length bytes) && nat_le (length bytes) KEY_CHARACTERS && list_all is_key_character bytes
+
+abbrev pub key_in : List ℕ → Option Entry
+key_in bytes = if is_key bytes then Some (entry.Key bytes) else None
+
 abbrev pub kind_in : (List ℕ → Option Entry) → Option (List ℕ) → Option Entry
 kind_in read None = None
 kind_in read (Some bytes) = read bytes
 
 -- The digits that stand after one of the words; the first word that fits counts.
-abbrev pub digits_in : Option (List ℕ) → Option (List ℕ) → Option (List ℕ) → Option (List ℕ) → Option (List ℕ) → Option Entry
-digits_in (Some digits) _ _ _ _ = kind_in queued_in (bytes_in digits)
-digits_in None (Some digits) _ _ _ = kind_in tried_in (bytes_in digits)
-digits_in None None (Some digits) _ _ = kind_in (λ bytes. recorded_of (number_in bytes)) (bytes_in digits)
-digits_in None None None (Some digits) _ = kind_in (λ bytes. raised_of (mark_in bytes)) (bytes_in digits)
-digits_in None None None None (Some digits) = kind_in (λ bytes. cancelled_of (number_in bytes)) (bytes_in digits)
-digits_in None None None None None = None
+abbrev pub digits_in : Option (List ℕ) → Option (List ℕ) → Option (List ℕ) → Option (List ℕ) → Option (List ℕ) → Option (List ℕ) → Option Entry
+digits_in (Some digits) _ _ _ _ _ = kind_in queued_in (bytes_in digits)
+digits_in None (Some digits) _ _ _ _ = kind_in tried_in (bytes_in digits)
+digits_in None None (Some digits) _ _ _ = kind_in (λ bytes. recorded_of (number_in bytes)) (bytes_in digits)
+digits_in None None None (Some digits) _ _ = kind_in (λ bytes. raised_of (mark_in bytes)) (bytes_in digits)
+digits_in None None None None (Some digits) _ = kind_in (λ bytes. cancelled_of (number_in bytes)) (bytes_in digits)
+digits_in None None None None None (Some digits) = kind_in key_in (bytes_in digits)
+digits_in None None None None None None = None
 
 -- The entry that a line, without its end, is.
 abbrev pub entry_in : List ℕ → Option Entry
-entry_in line = digits_in (after queued_word line) (after tried_word line) (after recorded_word line) (after raised_word line) (after cancelled_word line)
+entry_in line = digits_in (after queued_word line) (after tried_word line) (after recorded_word line) (after raised_word line) (after cancelled_word line) (after key_word line)
 
 -- ## Entries that there are
 
--- The entry is one that the types have: receipt numbers begin at 1, numbers have 64 bits and mark numbers 32, and the text is bytes.
+-- The entry is one that the types have: receipt numbers begin at 1, numbers have 64 bits and mark numbers 32, the text is bytes,
+-- and a key is one.
 abbrev pub IsReal : Entry → Type 0
 IsReal (entry.Queued content) =
     IsTrue (is_line_width content.options.width) × IfSome content.options.replacement (λ code. IsTrue (is_replacement code)) × IsBytes content.text
@@ -138,3 +155,4 @@ IsReal (entry.Tried number next) = (0 < number) × (number < 2 ^ 64) × (next < 
 IsReal (entry.Recorded number) = (0 < number) × (number < 2 ^ 64)
 IsReal (entry.Raised next) = next < 2 ^ 32
 IsReal (entry.Cancelled number) = (0 < number) × (number < 2 ^ 64)
+IsReal (entry.Key key) = IsKey key × IsBytes key

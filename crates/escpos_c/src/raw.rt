@@ -153,7 +153,7 @@ fn queue(alloc: Global, core: &mut TillCore, width: LineWidth, stream: &[u8]) ->
     ensures { QueuesRaw width stream.now (number_of_status result.0) result.1 core.old core.new }
 {
     match content_of(alloc, width, stream) {
-        Ok(content) => ended(core.take(content)),
+        Ok(content) => ended(core.take(content, None)),
         Err(NoReceipt::Refused(refusal)) => (CallStatus::Refused, Told::receipt(refusal)),
         Err(NoReceipt::Memory) => (CallStatus::Memory, Told::nothing()),
     }

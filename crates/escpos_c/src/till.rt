@@ -8,7 +8,7 @@ ghost use Rattle.escpos_till.specs.Machine.{Came, IsPausing, hung_up, told};
 ghost use Rattle.escpos_c.specs.declared.refusal.TheConstants.{NO_REASON};
 ghost use Rattle.escpos_c.specs.Given.{receipt_options};
 ghost use Rattle.escpos_c.specs.Handles.{OnHandle};
-ghost use Rattle.escpos_c.specs.TillCalls.{CancelsNumber, DeliversCopy, GivesEntry, Opens, QueuesTextWith, RaisesTo, TakesAppended, TakesConnected, TakesEnd, TakesOutOf, TellsAsk};
+ghost use Rattle.escpos_c.specs.TillCalls.{CancelsNumber, DeliversCopy, GivesEntry, Opens, QueuesKeyed, QueuesTextWith, RaisesTo, TakesAppended, TakesConnected, TakesEnd, TakesOutOf, TellsAsk};
 ghost use Rattle.escpos_c.specs.TillTexts.{IsDamagedAt, IsMachineOf};
 ghost use Rattle.escpos_c.specs.TillNumbers.{nothing_told, only, standing_at, standing_of};
 
@@ -78,13 +78,36 @@ pub extern "C" fn escpos_till_queue(
     json: &[u8],
     told: &mut Told,
 ) -> i32
-    ensures { OnHandle till.old.value till.new.value (QueuesTextWith (receipt_options options.now) json.now result told.new)
+    ensures { OnHandle till.old.value till.new.value (QueuesTextWith (receipt_options options.now) json.now None result told.new)
         ((result ≡ pos 2) × (told.new ≡ nothing_told)) }
 {
     let Some(mut core) = till.take(alloc) else {
         return empty(told);
     };
-    let (status, why) = core.queue_with(alloc, options.receipt_options(), json);
+    let (status, why) = core.queue_with(alloc, options.receipt_options(), json, None);
+    till.put(alloc, core);
+    *told = why;
+    status.number()
+}
+
+/// The same of a receipt that comes with this key: it is to be kept, and the key before it; but if a receipt has the key, its number is
+/// to be told, and nothing is to be kept.
+#[unsafe(no_mangle)]
+pub extern "C" fn escpos_till_queue_keyed(
+    alloc: Global,
+    till: &mut TillHandle,
+    options: &Options,
+    json: &[u8],
+    key: &[u8],
+    told: &mut Told,
+) -> i32
+    ensures { OnHandle till.old.value till.new.value (QueuesKeyed (receipt_options options.now) json.now key.now result told.new)
+        ((result ≡ pos 2) × (told.new ≡ nothing_told)) }
+{
+    let Some(mut core) = till.take(alloc) else {
+        return empty(told);
+    };
+    let (status, why) = core.queue_keyed(alloc, options.receipt_options(), json, key);
     till.put(alloc, core);
     *told = why;
     status.number()

@@ -10,7 +10,7 @@ ghost use Rattle.escpos_till.specs.Machine.{Queues, RefusesAny, SameEntries};
 ghost use Rattle.escpos_c.specs.EncodeCalls.{GivesReceipt};
 ghost use Rattle.escpos_c.specs.Reasons.{IsReason};
 ghost use Rattle.escpos_c.specs.Status.{number_of_status};
-ghost use Rattle.escpos_c.specs.TillCalls.{CancelsNumber, DeliversCopy, GivesEntry, GivesLine, QueuesText, QueuesTextWith, RaisesTo, TakesAppended, TakesEnd, TellsAsk};
+ghost use Rattle.escpos_c.specs.TillCalls.{CancelsNumber, DeliversCopy, GivesEntry, GivesLine, QueuesKeyed, QueuesText, QueuesTextWith, RaisesTo, TakesAppended, TakesEnd, TellsAsk};
 ghost use Rattle.escpos_c.specs.TillNumbers.{standing_of};
 
 use crate::buffer::give;
@@ -19,12 +19,13 @@ use crate::no_receipt::{NoReceipt, no_receipt};
 use crate::refusal::Refusal;
 use crate::till_lines::line_of;
 use crate::till_numbers::{
-    Asked, BAD_COPY, NOT_TAKEN, Standing, Told, ended, fault_of, note_asked, standing_of,
+    Asked, BAD_COPY, BAD_KEY, NOT_TAKEN, Standing, Told, ended, fault_of, note_asked, standing_of,
 };
 use escpos_jobs::input::INPUT_LIMIT;
 use escpos_receipt::ReceiptOptions;
 use escpos_till::{
-    Action, CopyText, Entry, ReceiptContent, ReceiptNumber, StoreFault, TillMachine, TillRefusal,
+    Action, CopyText, Entry, ReceiptContent, ReceiptKey, ReceiptNumber, StoreFault, TillMachine,
+    TillRefusal,
 };
 use std::alloc::Global;
 
@@ -45,38 +46,65 @@ impl TillCore {
         }
     }
 
-    /// Takes the receipt that a text describes with these options, `None` where they are out of range.
+    /// Takes the receipt that a text describes with these options, `None` where they are out of range. It may come with a key.
     pub fn queue_with(
         &mut self,
         alloc: Global,
         options: Option<ReceiptOptions>,
         json: &[u8],
+        key: Option<ReceiptKey>,
     ) -> (CallStatus, Told)
-        ensures { QueuesTextWith options json.now (number_of_status result.0) result.1 self.old self.new }
+        ensures { QueuesTextWith options json.now key (number_of_status result.0) result.1 self.old self.new }
     {
         match options {
-            Some(options) => self.queue(alloc, &options, json),
+            Some(options) => self.queue(alloc, &options, json, key),
             None => (CallStatus::Refused, Told::receipt(Refusal::bad_options())),
         }
     }
 
+    /// The same with a key of these bytes. If they are none, it is refused, and the machine isn't asked.
+    pub fn queue_keyed(
+        &mut self,
+        alloc: Global,
+        options: Option<ReceiptOptions>,
+        json: &[u8],
+        key: &[u8],
+    ) -> (CallStatus, Told)
+        ensures { QueuesKeyed options json.now key.now (number_of_status result.0) result.1 self.old self.new }
+    {
+        match ReceiptKey::new(key) {
+            Some(key) => self.queue_with(alloc, options, json, Some(key)),
+            None => (CallStatus::Refused, Told::reason(BAD_KEY)),
+        }
+    }
+
     // Takes the receipt that a text describes, or says why it describes none.
-    fn queue(&mut self, alloc: Global, options: &ReceiptOptions, json: &[u8]) -> (CallStatus, Told)
-        ensures { QueuesText options.now json.now (number_of_status result.0) result.1 self.old self.new }
+    fn queue(
+        &mut self,
+        alloc: Global,
+        options: &ReceiptOptions,
+        json: &[u8],
+        key: Option<ReceiptKey>,
+    ) -> (CallStatus, Told)
+        ensures { QueuesText options.now json.now key (number_of_status result.0) result.1 self.old self.new }
     {
         match content_of(alloc, options, json) {
-            Ok(content) => ended(self.take(content)),
+            Ok(content) => ended(self.take(content, key)),
             Err(NoReceipt::Refused(refusal)) => (CallStatus::Refused, Told::receipt(refusal)),
             Err(NoReceipt::Memory) => (CallStatus::Memory, Told::nothing()),
         }
     }
 
-    /// Takes a receipt that was read.
-    pub fn take(&mut self, content: ReceiptContent) -> Result<(), TillRefusal>
-        ensures taken { OnOk result (Queues self.old.machine content self.new.machine) }
+    /// Takes a receipt that was read, which may come with a key.
+    pub fn take(
+        &mut self,
+        content: ReceiptContent,
+        key: Option<ReceiptKey>,
+    ) -> Result<(), TillRefusal>
+        ensures taken { OnOk result (Queues self.old.machine content key self.new.machine) }
         ensures refused { IfErr result (λ why. RefusesAny self.old.machine why × SameEntries self.old.machine self.new.machine) }
     {
-        if let Err((why, _content)) = self.machine.queue(content) {
+        if let Err((why, _content)) = self.machine.queue(content, key) {
             return Err(why);
         }
         Ok(())

@@ -8,16 +8,17 @@
 //!   recorded  | the receipt's number in 16 digits
 //!   raised    | the next mark number in 8 digits
 //!   cancelled | the receipt's number in 16 digits
+//!   key       | the key of the receipt that the next line takes
 
 ghost use Rattle.std.specs.Prelude.{◌≡◌, ◌++◌, [], ◌∷◌, Option, Some, None, option_map, IfOk, OnOk, IsErrOf};
 ghost use Rattle.std.specs.Int.{w16, w32, w64, to_be_bytes};
 ghost use Rattle.escpos_till.specs.declared.entry.Entry.{Entry as EntryValue};
-ghost use Rattle.escpos_c.specs.TillLines.{IsReal, after, bytes_in, cancelled_of, ended_line, entry_in, fields, line_of, mark_in, number_in, queued_in, raised_of, recorded_of, replacement_byte, replacement_in, tried_in, width_in, word};
+ghost use Rattle.escpos_c.specs.TillLines.{IsReal, after, bytes_in, cancelled_of, ended_line, entry_in, fields, key_in, line_of, mark_in, number_in, queued_in, raised_of, recorded_of, replacement_byte, replacement_in, tried_in, width_in, word};
 
 use escpos_command::{LF, LineWidth};
 use escpos_receipt::ReceiptOptions;
 use escpos_text::Replacement;
-use escpos_till::{Content, Entry, ReceiptNumber};
+use escpos_till::{Content, Entry, ReceiptKey, ReceiptNumber};
 use hex::FromHexError;
 use std::alloc::{AllocError, Global};
 
@@ -53,6 +54,7 @@ fn word(entry: &Entry) -> &'static [u8]
         Entry::Recorded { .. } => b"recorded ",
         Entry::Raised { .. } => b"raised ",
         Entry::Cancelled { .. } => b"cancelled ",
+        Entry::Key { .. } => b"key ",
     }
 }
 
@@ -75,6 +77,7 @@ fn fields(alloc: Global, entry: &Entry) -> Result<Vec<u8>, AllocError>
             bytes.extend_from_slice(&number.get().to_be_bytes())?
         }
         Entry::Raised { next } => bytes.extend_from_slice(&next.to_be_bytes())?,
+        Entry::Key { key } => bytes.extend_from_slice(key.bytes())?,
     }
     Ok(bytes)
 }
@@ -108,6 +111,9 @@ pub fn entry_in(alloc: Global, line: &[u8]) -> Result<Entry, NoEntry>
     }
     if let Some(digits) = after(b"cancelled ", line) {
         return cancelled_in(&bytes_in(alloc, digits)?).ok_or(NoEntry::Damaged);
+    }
+    if let Some(digits) = after(b"key ", line) {
+        return key_in(&bytes_in(alloc, digits)?).ok_or(NoEntry::Damaged);
     }
     Err(NoEntry::Damaged)
 }
@@ -216,6 +222,16 @@ fn cancelled_in(bytes: &[u8]) -> Option<Entry>
 {
     match number_in(bytes) {
         Some(number) => Some(Entry::Cancelled { number }),
+        None => None,
+    }
+}
+
+// The entry by which a key is said, from its field.
+fn key_in(bytes: &[u8]) -> Option<Entry>
+    ensures { result ≡ key_in bytes.now }
+{
+    match ReceiptKey::new(bytes) {
+        Some(key) => Some(Entry::Key { key }),
         None => None,
     }
 }

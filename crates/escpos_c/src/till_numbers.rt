@@ -18,11 +18,16 @@ pub const DAMAGED: u32 = 8;
 /// The reason of a number that no receipt has.
 pub const NOT_TAKEN: u32 = 10;
 
+/// The reason of a receipt's key that isn't 1 to 64 characters from 21 to 7E hexadecimal.
+pub const BAD_KEY: u32 = 13;
+
 const _: () = prove!(BAD_COPY == 7);
 
 const _: () = prove!(DAMAGED == 8);
 
 const _: () = prove!(NOT_TAKEN == 10);
+
+const _: () = prove!(BAD_KEY == 13);
 
 /// What a till asks for, as C sees it.
 #[repr(C)]

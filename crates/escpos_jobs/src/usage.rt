@@ -24,7 +24,8 @@ usage: escpos_cli check [--raw] < STREAM
        escpos_cli status ADDRESS [--wait S]
        escpos_cli probe ADDRESS [--wait S]
        escpos_cli loop [--width D] < RECEIPT
-       escpos_cli queue LEDGER [--width D] [--raw | --replace C] < RECEIPT
+       escpos_cli queue LEDGER [--width D] [--raw | --replace C] [--key K]
+                               < RECEIPT
        escpos_cli queue LEDGER --again N
        escpos_cli deliver LEDGER ADDRESS [--openings N] [--copy TEXT]
                                          [--wait S] [--patience P]
@@ -489,7 +490,8 @@ line `memory` says that the program ran out of memory.
           feed 1
           recorded 0
 
-  escpos_cli queue LEDGER [--again N | [--width D] [--raw | --replace C]]
+  escpos_cli queue LEDGER [--again N | [--width D] [--raw | --replace C]
+                                       [--key K]]
       Reads a receipt in JSON as `encode` does, takes it into the file LEDGER,
       and prints `queued N`: its number, from 1. From then on it is kept,
       whatever is switched off, and --width and --replace, which are those of
@@ -508,12 +510,20 @@ line `memory` says that the program ran out of memory.
       once more, with a number of its own. If no receipt N was taken, the line
       is `refused NotTaken N`.
 
+      With --key K, 1 to 64 characters 21 to 7E, a till that lost the answer may
+      ask again: if a receipt of the ledger has this key, that is the one. Its
+      number is printed, and nothing is taken.
+
           $ echo '[{\"line\":\"Hi\"}]' | escpos_cli queue shop.ledger
           queued 1
           $ printf '\\x1b@Hi\\n' | escpos_cli queue shop.ledger --raw
           queued 2
           $ escpos_cli queue shop.ledger --again 1
           queued 3
+          $ echo '[{\"line\":\"Hi\"}]' | escpos_cli queue shop.ledger --key sale-7
+          queued 4
+          $ echo '[{\"line\":\"Hi\"}]' | escpos_cli queue shop.ledger --key sale-7
+          queued 4
 
   escpos_cli deliver LEDGER ADDRESS [--openings N] [--copy TEXT] [--wait S]
                                     [--patience P]

@@ -46,26 +46,37 @@ same_entry id (entry.Queued c) (entry.Tried k l) h = absurd (cc)
 same_entry id (entry.Queued c) (entry.Recorded k) h = absurd (cc)
 same_entry id (entry.Queued c) (entry.Raised k) h = absurd (cc)
 same_entry id (entry.Queued c) (entry.Cancelled k) h = absurd (cc)
+same_entry id (entry.Queued c) (entry.Key l) h = absurd (cc)
 same_entry id (entry.Tried n m) (entry.Queued d) h = absurd (cc)
 same_entry id (entry.Tried n m) (entry.Tried k l) h = cc
 same_entry id (entry.Tried n m) (entry.Recorded k) h = absurd (cc)
 same_entry id (entry.Tried n m) (entry.Raised k) h = absurd (cc)
 same_entry id (entry.Tried n m) (entry.Cancelled k) h = absurd (cc)
+same_entry id (entry.Tried n m) (entry.Key l) h = absurd (cc)
 same_entry id (entry.Recorded n) (entry.Queued d) h = absurd (cc)
 same_entry id (entry.Recorded n) (entry.Tried k l) h = absurd (cc)
 same_entry id (entry.Recorded n) (entry.Recorded k) h = cc
 same_entry id (entry.Recorded n) (entry.Raised k) h = absurd (cc)
 same_entry id (entry.Recorded n) (entry.Cancelled k) h = absurd (cc)
+same_entry id (entry.Recorded n) (entry.Key l) h = absurd (cc)
 same_entry id (entry.Raised m) (entry.Queued d) h = absurd (cc)
 same_entry id (entry.Raised m) (entry.Tried k l) h = absurd (cc)
 same_entry id (entry.Raised m) (entry.Recorded k) h = absurd (cc)
 same_entry id (entry.Raised m) (entry.Raised k) h = cc
 same_entry id (entry.Raised m) (entry.Cancelled k) h = absurd (cc)
+same_entry id (entry.Raised m) (entry.Key l) h = absurd (cc)
 same_entry id (entry.Cancelled n) (entry.Queued d) h = absurd (cc)
 same_entry id (entry.Cancelled n) (entry.Tried k l) h = absurd (cc)
 same_entry id (entry.Cancelled n) (entry.Recorded k) h = absurd (cc)
 same_entry id (entry.Cancelled n) (entry.Raised k) h = absurd (cc)
 same_entry id (entry.Cancelled n) (entry.Cancelled k) h = cc
+same_entry id (entry.Cancelled n) (entry.Key l) h = absurd (cc)
+same_entry id (entry.Key k) (entry.Queued d) h = absurd (cc)
+same_entry id (entry.Key k) (entry.Tried n m) h = absurd (cc)
+same_entry id (entry.Key k) (entry.Recorded n) h = absurd (cc)
+same_entry id (entry.Key k) (entry.Raised m) h = absurd (cc)
+same_entry id (entry.Key k) (entry.Cancelled n) h = absurd (cc)
+same_entry id (entry.Key k) (entry.Key l) h = ap entry.Key cc
 
 abbrev pub has_id : ℕ → Row → Bool
 has_id id row = number_in (column row 0) == id

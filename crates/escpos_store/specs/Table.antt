@@ -5,6 +5,7 @@ use Rattle.escpos_command.specs.LineWidths.{is_line_width}
 use Rattle.escpos_text.specs.Replacements.{is_replacement}
 use Rattle.escpos_till.specs.declared.entry.Entry.{Entry}
 use Rattle.escpos_till.specs.declared.entry.Entry.TheVariants as entry
+use Rattle.escpos_till.specs.Keys.{IsKey}
 use Rattle.sqlite.specs.declared.types.Value.{Value}
 use Rattle.sqlite.specs.declared.types.Value.TheVariants.{Null, Int, Blob as Bytes}
 use Rattle.sqlite.specs.Collation.TheVariants.{Binary}
@@ -65,6 +66,7 @@ kind_of (entry.Tried number next) = 2
 kind_of (entry.Recorded number) = 3
 kind_of (entry.Raised next) = 4
 kind_of (entry.Cancelled number) = 5
+kind_of (entry.Key key) = 6
 
 -- The dots of a receipt's lines, but 0 for the usual 512, as in ledgers that know no other width. A line has 1 dot at least, so
 -- that 512 for none makes the numbers of all widths differ.
@@ -83,6 +85,7 @@ number_of (entry.Tried number next) = number
 number_of (entry.Recorded number) = number
 number_of (entry.Raised next) = 0
 number_of (entry.Cancelled number) = number
+number_of (entry.Key key) = 0
 
 -- the mark number that is free afterwards; in an entry by which a receipt is taken its replacement, and 0 in an entry that has neither
 abbrev pub next_of : Entry → ℕ
@@ -91,27 +94,30 @@ next_of (entry.Tried number next) = next
 next_of (entry.Recorded number) = 0
 next_of (entry.Raised next) = next
 next_of (entry.Cancelled number) = 0
+next_of (entry.Key key) = 0
 
--- the receipt's text, and NULL in an entry that has none
+-- the receipt's text, or its key, and NULL in an entry that has neither
 abbrev pub content_of : Entry → Value
 content_of (entry.Queued content) = Bytes content.text
 content_of (entry.Tried number next) = Null
 content_of (entry.Recorded number) = Null
 content_of (entry.Raised next) = Null
 content_of (entry.Cancelled number) = Null
+content_of (entry.Key key) = Bytes key
 
 -- the row of an entry: id, kind, number, next, content
 abbrev pub row_of : ℕ → Entry → Row
 row_of id e = Int (pos id) ∷ Int (pos (kind_of e)) ∷ Int (pos (number_of e)) ∷ Int (pos (next_of e)) ∷ content_of e ∷ []
 
--- The entry is one that the types have: receipt numbers begin at 1, a mark number has 32 bits, and the width and the replacement of a
--- receipt's options are ones that there are.
+-- The entry is one that the types have: receipt numbers begin at 1, a mark number has 32 bits, the width and the replacement of a
+-- receipt's options are ones that there are, and a key is one.
 abbrev pub IsReal : Entry → Type 0
 IsReal (entry.Queued content) = IsTrue (is_line_width content.options.width) × IfSome content.options.replacement (λ code. IsTrue (is_replacement code))
 IsReal (entry.Tried number next) = (0 < number) × (next < 2 ^ 32)
 IsReal (entry.Recorded number) = 0 < number
 IsReal (entry.Raised next) = next < 2 ^ 32
 IsReal (entry.Cancelled number) = 0 < number
+IsReal (entry.Key key) = IsKey key
 
 abbrev pub rows_from : ℕ → List Entry → List Row
 rows_from id [] = []

@@ -7,12 +7,13 @@ ghost use Rattle.sqlite.specs.Value.{owned};
 ghost use Rattle.escpos_command.specs.LineWidths.{is_line_width};
 ghost use Rattle.escpos_text.specs.Replacements.{is_replacement};
 ghost use Rattle.escpos_till.specs.declared.entry.Entry.{Entry as EntryValue};
+ghost use Rattle.escpos_till.specs.Keys.{IsKey};
 ghost use Rattle.escpos_store.specs.Table.{kind_of, number_of, next_of, content_of, replacement_number, row_of, rows_from, width_number, IsReal};
 
 use escpos_command::{LineWidth, USUAL_LINE_DOTS};
 use escpos_receipt::ReceiptOptions;
 use escpos_text::Replacement;
-use escpos_till::{Content, Entry, ReceiptNumber};
+use escpos_till::{Content, Entry, ReceiptKey, ReceiptNumber};
 use sqlite::Row;
 use sqlite::types::ValueRef;
 use std::alloc::{AllocError, Global};
@@ -25,7 +26,7 @@ pub fn id(number: usize) -> Option<ValueRef<'static>>
     Some(ValueRef::Int(i64::try_from(number).ok()?))
 }
 
-/// The kind: 1 for Queued, 2 for Tried, 3 for Recorded, 4 for Raised, 5 for Cancelled.
+/// The kind: 1 for Queued, 2 for Tried, 3 for Recorded, 4 for Raised, 5 for Cancelled, 6 for Key.
 pub fn kind(entry: &Entry) -> ValueRef<'static>
     ensures { owned result ≡ Int (pos (kind_of entry.now)) }
 {
@@ -35,6 +36,7 @@ pub fn kind(entry: &Entry) -> ValueRef<'static>
         Entry::Recorded { .. } => 3,
         Entry::Raised { .. } => 4,
         Entry::Cancelled { .. } => 5,
+        Entry::Key { .. } => 6,
     })
 }
 
@@ -46,7 +48,7 @@ pub fn number(entry: &Entry) -> Option<ValueRef<'static>>
 {
     let number = match entry {
         Entry::Queued { content } => width_number(content.options.width),
-        Entry::Raised { .. } => 0,
+        Entry::Raised { .. } | Entry::Key { .. } => 0,
         Entry::Tried { number, .. } | Entry::Recorded { number } | Entry::Cancelled { number } =>
             number.get(),
     };
@@ -72,7 +74,7 @@ pub fn next(entry: &Entry) -> ValueRef<'static>
 {
     ValueRef::Int(match entry {
         Entry::Queued { content } => replacement_number(content.options.replacement),
-        Entry::Recorded { .. } | Entry::Cancelled { .. } => 0,
+        Entry::Recorded { .. } | Entry::Cancelled { .. } | Entry::Key { .. } => 0,
         Entry::Tried { next, .. } | Entry::Raised { next } => i64::from(*next),
     })
 }
@@ -87,12 +89,13 @@ fn replacement_number(replacement: Option<Replacement>) -> i64
     }
 }
 
-/// The receipt's text; NULL in an entry that has none.
+/// The receipt's text, or its key; NULL in an entry that has neither.
 pub fn content(entry: &Entry) -> ValueRef<'_>
     ensures { owned result ≡ content_of entry.now }
 {
     match entry {
         Entry::Queued { content } => ValueRef::Blob(content.bytes()),
+        Entry::Key { key } => ValueRef::Blob(key.bytes()),
         Entry::Tried { .. }
         | Entry::Recorded { .. }
         | Entry::Raised { .. }
@@ -132,9 +135,39 @@ fn entry_of(alloc: Global, row: &Row, before: usize) -> Result<Option<Entry>, Al
         return Ok(None);
     }
     match row.get_ref(4) {
-        Ok(ValueRef::Blob(bytes)) if kind == 1 => queued(alloc, number, next, bytes),
+        Ok(ValueRef::Blob(bytes)) => entry_with_content(alloc, kind, number, next, bytes),
         Ok(ValueRef::Null) => Ok(entry_without_content(kind, number, next)),
         _ => Ok(None),
+    }
+}
+
+fn entry_with_content(
+    alloc: Global,
+    kind: u64,
+    number: u64,
+    next: u64,
+    bytes: &[u8],
+) -> Result<Option<Entry>, AllocError>
+    ensures entry { IfOk result (λ found. IfSome found (λ entry. (kind_of entry ≡ kind) × (number_of entry ≡ number) × (next_of entry ≡ next)
+        × (content_of entry ≡ Bytes bytes.now))) }
+    ensures none { IfOk result (λ found. found ≡ None → (entry : EntryValue) → IsReal entry → kind_of entry ≡ kind → number_of entry ≡ number
+        → next_of entry ≡ next → content_of entry ≢ Bytes bytes.now) }
+{
+    match kind {
+        1 => queued(alloc, number, next, bytes),
+        6 if number == 0 && next == 0 => Ok(keyed(bytes)),
+        _ => Ok(None),
+    }
+}
+
+// The entry that says this key, if it is one.
+fn keyed(bytes: &[u8]) -> Option<Entry>
+    ensures entry { IfSome result (λ entry. entry ≡ Entry.Key bytes.now) }
+    ensures none { result ≡ None → ¬ IsKey bytes.now }
+{
+    match ReceiptKey::new(bytes) {
+        Some(key) => Some(Entry::Key { key }),
+        None => None,
     }
 }
 

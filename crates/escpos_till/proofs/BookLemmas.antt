@@ -7,17 +7,20 @@ use Rattle.std.proofs.lemmas.Option.{get_or_from_slice_get, same_Some, slice_get
 use Rattle.escpos_till.specs.declared.book.Book.{Book}
 use Rattle.escpos_till.specs.declared.entry.Content.{Content}
 use Rattle.escpos_till.specs.declared.entry.Entry.{Entry}
-use Rattle.escpos_till.specs.declared.entry.Entry.TheVariants.{Queued, Tried, Recorded, Raised, Cancelled}
+use Rattle.escpos_till.specs.declared.entry.Entry.TheVariants.{Queued, Tried, Recorded, Raised, Cancelled, Key}
 use Rattle.escpos_till.specs.declared.state.ReceiptState.{ReceiptState}
 use Rattle.escpos_till.specs.declared.state.ReceiptState.TheVariants as state
-use Rattle.escpos_till.specs.Book.{HasContents, IsBookOf}
-use Rattle.escpos_till.specs.Entries.{IsLedger, MayFollow, Waits, contents, recorded, state_of, states, taken, times_tried, waiting}
+use Rattle.escpos_till.specs.declared.keyed.Keyed.{Keyed}
+use Rattle.escpos_till.specs.Book.{HasContents, HasKeys, IsBookOf}
+use Rattle.escpos_till.specs.Keyed.{ListsKey}
+use Rattle.escpos_till.specs.Entries.{HasKey, IsLedger, MayFollow, Waits, contents, recorded, state_of, states, taken, times_tried, waiting}
 use Rattle.escpos_till.specs.Entries.{states as states_of}
 use Rattle.escpos_till.specs.Delivers.{FirstWaits}
 use Rattle.escpos_till.specs.Tries.{tries, try_of}
 use Rattle.escpos_till.specs.States.{IsEnded, IsFirstWaiting, tries_in}
 use Rattle.escpos_till.proofs.StateLemmas.{first_after_queued, first_after_tried, get-set, get-snoc}
-use Rattle.escpos_till.proofs.EntryLemmas.{cancelled_states, count_states, first_of_states, length-states, no_more, next_after_cancelled, next_after_queued, next_after_raised, next_after_recorded, next_after_tried, recorded-count, recorded-same, recorded_states, states-get, states_after_queued, states_after_raised, tried_states, waiting_state, waits_by_state, within_states}
+use Rattle.escpos_till.proofs.KeyLemmas.{keys_after_keyed, keys_after_plain, keys_as_before, last_key_after}
+use Rattle.escpos_till.proofs.EntryLemmas.{cancelled_states, count_states, first_of_states, length-states, no_more, next_after_cancelled, next_after_key, next_after_queued, next_after_raised, next_after_recorded, next_after_tried, recorded-count, recorded-same, recorded_states, states-get, states_after_key, states_after_queued, states_after_raised, tried_states, waiting_state, waits_by_state, within_states}
 
 -- ## Contents
 
@@ -28,6 +31,7 @@ contents-snoc (Tried n next ∷ es) content = contents-snoc es content
 contents-snoc (Recorded n ∷ es) content = contents-snoc es content
 contents-snoc (Raised next ∷ es) content = contents-snoc es content
 contents-snoc (Cancelled n ∷ es) content = contents-snoc es content
+contents-snoc (Key k ∷ es) content = contents-snoc es content
 
 contents-tried : (es : List Entry) (n next : ℕ) → contents (es ++ Tried n next ∷ []) ≡ contents es
 contents-tried [] n next = refl
@@ -36,6 +40,7 @@ contents-tried (Tried m other ∷ es) n next = contents-tried es n next
 contents-tried (Recorded m ∷ es) n next = contents-tried es n next
 contents-tried (Raised other ∷ es) n next = contents-tried es n next
 contents-tried (Cancelled m ∷ es) n next = contents-tried es n next
+contents-tried (Key k ∷ es) n next = contents-tried es n next
 
 contents-recorded : (es : List Entry) (n : ℕ) → contents (es ++ Recorded n ∷ []) ≡ contents es
 contents-recorded [] n = refl
@@ -44,6 +49,7 @@ contents-recorded (Tried m other ∷ es) n = contents-recorded es n
 contents-recorded (Recorded m ∷ es) n = contents-recorded es n
 contents-recorded (Raised other ∷ es) n = contents-recorded es n
 contents-recorded (Cancelled m ∷ es) n = contents-recorded es n
+contents-recorded (Key k ∷ es) n = contents-recorded es n
 
 contents-raised : (es : List Entry) (next : ℕ) → contents (es ++ Raised next ∷ []) ≡ contents es
 contents-raised [] next = refl
@@ -52,6 +58,7 @@ contents-raised (Tried m other ∷ es) next = contents-raised es next
 contents-raised (Recorded m ∷ es) next = contents-raised es next
 contents-raised (Raised other ∷ es) next = contents-raised es next
 contents-raised (Cancelled m ∷ es) next = contents-raised es next
+contents-raised (Key k ∷ es) next = contents-raised es next
 
 contents-cancelled : (es : List Entry) (n : ℕ) → contents (es ++ Cancelled n ∷ []) ≡ contents es
 contents-cancelled [] n = refl
@@ -60,6 +67,16 @@ contents-cancelled (Tried m other ∷ es) n = contents-cancelled es n
 contents-cancelled (Recorded m ∷ es) n = contents-cancelled es n
 contents-cancelled (Raised other ∷ es) n = contents-cancelled es n
 contents-cancelled (Cancelled m ∷ es) n = contents-cancelled es n
+contents-cancelled (Key k ∷ es) n = contents-cancelled es n
+
+contents-key : (es : List Entry) (key : List ℕ) → contents (es ++ Key key ∷ []) ≡ contents es
+contents-key [] key = refl
+contents-key (Queued c ∷ es) key = ap (λ rest. c ∷ rest) (contents-key es key)
+contents-key (Tried m other ∷ es) key = contents-key es key
+contents-key (Recorded m ∷ es) key = contents-key es key
+contents-key (Raised other ∷ es) key = contents-key es key
+contents-key (Cancelled m ∷ es) key = contents-key es key
+contents-key (Key k ∷ es) key = contents-key es key
 
 -- ## Tries
 
@@ -155,6 +172,13 @@ contents_after_raised kept es next has = record {
       has.waiting k tried c (ap (λ ss. slice_get ss k) (sym (states_after_raised es next)) ∙ stands) (ap (λ cs. slice_get cs k) (sym (contents-raised es next)) ∙ is);
 }
 
+contents_after_key : (kept : List Content) (es : List Entry) (key : List ℕ) → HasContents kept es → HasContents kept (es ++ Key key ∷ [])
+contents_after_key kept es key has = record {
+  count = has.count ∙ ap length (sym (contents-key es key));
+  waiting = λ k tried c stands is.
+      has.waiting k tried c (ap (λ ss. slice_get ss k) (sym (states_after_key es key)) ∙ stands) (ap (λ cs. slice_get cs k) (sym (contents-key es key)) ∙ is);
+}
+
 -- ## Books
 
 one_more_entry : (old new : ℕ) (es : List Entry) (e : Entry) → new ≡ old + 1 → old ≡ length es → new ≡ length (es ++ e ∷ [])
@@ -170,22 +194,25 @@ state_read s es n r x sums waits same is =
 
 pub book_after_queued : (s t : Book) (es : List Entry) (e : Entry) (content : Content) → IsBookOf s es → IsLedger es → e ≡ Queued content
     → t.contents.items ≡ s.contents.items ++ content ∷ [] → t.states.items ≡ s.states.items ++ state.Waiting 0 ∷ []
-    → t.first_waiting ≡ s.first_waiting → t.recorded ≡ s.recorded → t.next ≡ s.next → t.count ≡ s.count + 1 → t.tries.items ≡ s.tries.items → IsBookOf t (es ++ e ∷ [])
-book_after_queued s t es e content sums ledger kind kept states first recorded next count tried = subst (λ e. IsBookOf t (es ++ e ∷ [])) (sym kind) (record {
+    → t.first_waiting ≡ s.first_waiting → t.recorded ≡ s.recorded → t.next ≡ s.next → t.count ≡ s.count + 1 → t.tries.items ≡ s.tries.items
+    → HasKeys t.keys.items (es ++ Queued content ∷ []) → t.last_key ≡ None → IsBookOf t (es ++ e ∷ [])
+book_after_queued s t es e content sums ledger kind kept states first recorded next count tried keys last = subst (λ e. IsBookOf t (es ++ e ∷ [])) (sym kind) (record {
   contents = subst (λ cs. HasContents cs (es ++ Queued content ∷ [])) (sym kept) (contents_after_queued s.contents.items es content ledger sums.contents);
   states = states ∙ ap (λ ss. ss ++ state.Waiting 0 ∷ []) sums.states ∙ sym (states_after_queued es content ledger);
   first_waiting = subst (λ ss. IsFirstWaiting ss t.first_waiting) (sym states) (subst (IsFirstWaiting (s.states.items ++ state.Waiting 0 ∷ [])) (sym first) (first_after_queued s.states.items s.first_waiting sums.first_waiting));
   recorded = recorded ∙ sums.recorded ∙ sym (recorded-same es (Queued content) refl);
   next = next ∙ sums.next ∙ sym (next_after_queued es content);
   tries = tried ∙ sums.tries ∙ sym (same_tries es (Queued content) refl);
+  keys = keys;
+  last_key = last ∙ sym (last_key_after es (Queued content));
   count = one_more_entry s.count t.count es (Queued content) count sums.count;
 })
 
 pub book_after_tried : (s t : Book) (es : List Entry) (e : Entry) (n next r : ℕ) (x y : ReceiptState) → IsBookOf s es → MayFollow es e → e ≡ Tried n next → r ≡ n
     → x ≡ get_or s.states.items (r - 1) x → ((tried : ℕ) → x ≡ state.Waiting tried → y ≡ state.Waiting (tried + 1))
     → t.contents.items ≡ s.contents.items → t.states.items ≡ set s.states.items (r - 1) y
-    → t.first_waiting ≡ s.first_waiting → t.recorded ≡ s.recorded → t.next ≡ next → t.count ≡ s.count + 1 → t.tries.items ≡ s.tries.items ++ record { number = n; closing = next - 1 } ∷ [] → IsBookOf t (es ++ e ∷ [])
-book_after_tried s t es e n next r x y sums follows kind same is more kept states first recorded is_next count tried =
+    → t.first_waiting ≡ s.first_waiting → t.recorded ≡ s.recorded → t.next ≡ next → t.count ≡ s.count + 1 → t.tries.items ≡ s.tries.items ++ record { number = n; closing = next - 1 } ∷ [] → t.keys.items ≡ s.keys.items → t.last_key ≡ None → IsBookOf t (es ++ e ∷ [])
+book_after_tried s t es e n next r x y sums follows kind same is more kept states first recorded is_next count tried keys last =
     let waits : Waits es n = (subst (MayFollow es) kind follows).0 in
     let one_more = more (times_tried es n) (state_read s es n r x sums waits same is) in
     let set_so : t.states.items ≡ set s.states.items (n - 1) (state.Waiting (times_tried es n + 1)) =
@@ -198,13 +225,15 @@ book_after_tried s t es e n next r x y sums follows kind same is more kept state
       recorded = recorded ∙ sums.recorded ∙ sym (recorded-same es (Tried n next) refl);
       next = is_next ∙ sym (next_after_tried es n next);
       tries = tried ∙ ap (λ ts. ts ++ record { number = n; closing = next - 1 } ∷ []) sums.tries ∙ sym (tries-snoc es (Tried n next));
+      keys = subst (λ ks. HasKeys ks (es ++ Tried n next ∷ [])) (sym keys) (keys_as_before s.keys.items es (Tried n next) (λ c is. let bad : Tried n next ≡ Queued c = is in cc) sums.keys);
+      last_key = last ∙ sym (last_key_after es (Tried n next));
       count = one_more_entry s.count t.count es (Tried n next) count sums.count;
     })
 
 pub book_after_recorded : (s t : Book) (es : List Entry) (e : Entry) (n r : ℕ) → IsBookOf s es → MayFollow es e → e ≡ Recorded n → r ≡ n
     → (x : Content) → t.contents.items ≡ set s.contents.items (r - 1) x → t.states.items ≡ set s.states.items (r - 1) (state.Recorded s.recorded)
-    → IsFirstWaiting t.states.items t.first_waiting → t.recorded ≡ s.recorded + 1 → t.next ≡ s.next → t.count ≡ s.count + 1 → t.tries.items ≡ s.tries.items → IsBookOf t (es ++ e ∷ [])
-book_after_recorded s t es e n r sums follows kind same x kept states first recorded next count tried =
+    → IsFirstWaiting t.states.items t.first_waiting → t.recorded ≡ s.recorded + 1 → t.next ≡ s.next → t.count ≡ s.count + 1 → t.tries.items ≡ s.tries.items → t.keys.items ≡ s.keys.items → t.last_key ≡ None → IsBookOf t (es ++ e ∷ [])
+book_after_recorded s t es e n r sums follows kind same x kept states first recorded next count tried keys last =
     let waits : Waits es n = (subst (MayFollow es) kind follows).0 in
     subst (λ e. IsBookOf t (es ++ e ∷ [])) (sym kind) (record {
       contents = subst (λ cs. HasContents cs (es ++ Recorded n ∷ [])) (sym (kept ∙ ap (λ k. set s.contents.items (k - 1) x) same)) (contents_after_recorded s.contents.items es n x waits sums.contents);
@@ -214,14 +243,16 @@ book_after_recorded s t es e n r sums follows kind same x kept states first reco
       recorded = recorded ∙ ap (λ c. c + 1) sums.recorded ∙ sym (recorded-count es n);
       next = next ∙ sums.next ∙ sym (next_after_recorded es n);
       tries = tried ∙ sums.tries ∙ sym (same_tries es (Recorded n) refl);
+      keys = subst (λ ks. HasKeys ks (es ++ Recorded n ∷ [])) (sym keys) (keys_as_before s.keys.items es (Recorded n) (λ c is. let bad : Recorded n ≡ Queued c = is in cc) sums.keys);
+      last_key = last ∙ sym (last_key_after es (Recorded n));
       count = one_more_entry s.count t.count es (Recorded n) count sums.count;
     })
 
 pub book_after_cancelled : (s t : Book) (es : List Entry) (e : Entry) (n r : ℕ) (x y : ReceiptState) → IsBookOf s es → MayFollow es e → e ≡ Cancelled n → r ≡ n
     → x ≡ get_or s.states.items (r - 1) x → ((tried : ℕ) → x ≡ state.Waiting tried → y ≡ state.Cancelled tried)
     → (c : Content) → t.contents.items ≡ set s.contents.items (r - 1) c → t.states.items ≡ set s.states.items (r - 1) y
-    → IsFirstWaiting t.states.items t.first_waiting → t.recorded ≡ s.recorded → t.next ≡ s.next → t.count ≡ s.count + 1 → t.tries.items ≡ s.tries.items → IsBookOf t (es ++ e ∷ [])
-book_after_cancelled s t es e n r x y sums follows kind same is ends c kept states first recorded next count tried =
+    → IsFirstWaiting t.states.items t.first_waiting → t.recorded ≡ s.recorded → t.next ≡ s.next → t.count ≡ s.count + 1 → t.tries.items ≡ s.tries.items → t.keys.items ≡ s.keys.items → t.last_key ≡ None → IsBookOf t (es ++ e ∷ [])
+book_after_cancelled s t es e n r x y sums follows kind same is ends c kept states first recorded next count tried keys last =
     let waits : Waits es n = subst (MayFollow es) kind follows in
     let end = ends (times_tried es n) (state_read s es n r x sums waits same is) in
     subst (λ e. IsBookOf t (es ++ e ∷ [])) (sym kind) (record {
@@ -233,21 +264,53 @@ book_after_cancelled s t es e n r x y sums follows kind same is ends c kept stat
       recorded = recorded ∙ sums.recorded ∙ sym (recorded-same es (Cancelled n) refl);
       next = next ∙ sums.next ∙ sym (next_after_cancelled es n);
       tries = tried ∙ sums.tries ∙ sym (same_tries es (Cancelled n) refl);
+      keys = subst (λ ks. HasKeys ks (es ++ Cancelled n ∷ [])) (sym keys) (keys_as_before s.keys.items es (Cancelled n) (λ c is. let bad : Cancelled n ≡ Queued c = is in cc) sums.keys);
+      last_key = last ∙ sym (last_key_after es (Cancelled n));
       count = one_more_entry s.count t.count es (Cancelled n) count sums.count;
     })
 
 pub book_after_raised : (s t : Book) (es : List Entry) (e : Entry) (next : ℕ) → IsBookOf s es → e ≡ Raised next
     → t.contents.items ≡ s.contents.items → t.states.items ≡ s.states.items
-    → t.first_waiting ≡ s.first_waiting → t.recorded ≡ s.recorded → t.next ≡ next → t.count ≡ s.count + 1 → t.tries.items ≡ s.tries.items → IsBookOf t (es ++ e ∷ [])
-book_after_raised s t es e next sums kind kept states first recorded is_next count tried = subst (λ e. IsBookOf t (es ++ e ∷ [])) (sym kind) (record {
+    → t.first_waiting ≡ s.first_waiting → t.recorded ≡ s.recorded → t.next ≡ next → t.count ≡ s.count + 1 → t.tries.items ≡ s.tries.items → t.keys.items ≡ s.keys.items → t.last_key ≡ None → IsBookOf t (es ++ e ∷ [])
+book_after_raised s t es e next sums kind kept states first recorded is_next count tried keys last = subst (λ e. IsBookOf t (es ++ e ∷ [])) (sym kind) (record {
   contents = subst (λ cs. HasContents cs (es ++ Raised next ∷ [])) (sym kept) (contents_after_raised s.contents.items es next sums.contents);
   states = states ∙ sums.states ∙ sym (states_after_raised es next);
   first_waiting = subst (λ ss. IsFirstWaiting ss t.first_waiting) (sym states) (subst (IsFirstWaiting s.states.items) (sym first) sums.first_waiting);
   recorded = recorded ∙ sums.recorded ∙ sym (recorded-same es (Raised next) refl);
   next = is_next ∙ sym (next_after_raised es next);
   tries = tried ∙ sums.tries ∙ sym (same_tries es (Raised next) refl);
+  keys = subst (λ ks. HasKeys ks (es ++ Raised next ∷ [])) (sym keys) (keys_as_before s.keys.items es (Raised next) (λ c is. let bad : Raised next ≡ Queued c = is in cc) sums.keys);
+  last_key = last ∙ sym (last_key_after es (Raised next));
   count = one_more_entry s.count t.count es (Raised next) count sums.count;
 })
+
+pub book_after_key : (s t : Book) (es : List Entry) (e : Entry) (key : List ℕ) → IsBookOf s es → e ≡ Key key
+    → t.contents.items ≡ s.contents.items → t.states.items ≡ s.states.items
+    → t.first_waiting ≡ s.first_waiting → t.recorded ≡ s.recorded → t.next ≡ s.next → t.count ≡ s.count + 1 → t.tries.items ≡ s.tries.items → t.keys.items ≡ s.keys.items → t.last_key ≡ Some key
+    → IsBookOf t (es ++ e ∷ [])
+book_after_key s t es e key sums kind kept states first recorded next count tried keys last = subst (λ e. IsBookOf t (es ++ e ∷ [])) (sym kind) (record {
+  contents = subst (λ cs. HasContents cs (es ++ Key key ∷ [])) (sym kept) (contents_after_key s.contents.items es key sums.contents);
+  states = states ∙ sums.states ∙ sym (states_after_key es key);
+  first_waiting = subst (λ ss. IsFirstWaiting ss t.first_waiting) (sym states) (subst (IsFirstWaiting s.states.items) (sym first) sums.first_waiting);
+  recorded = recorded ∙ sums.recorded ∙ sym (recorded-same es (Key key) refl);
+  next = next ∙ sums.next ∙ sym (next_after_key es key);
+  tries = tried ∙ sums.tries ∙ sym (same_tries es (Key key) refl);
+  keys = subst (λ ks. HasKeys ks (es ++ Key key ∷ [])) (sym keys) (keys_as_before s.keys.items es (Key key) (λ c is. let bad : Key key ≡ Queued c = is in cc) sums.keys);
+  last_key = last ∙ sym (last_key_after es (Key key));
+  count = one_more_entry s.count t.count es (Key key) count sums.count;
+})
+
+-- A receipt that is taken directly after a key has it; otherwise none.
+pub queued_keyed : (s : Book) (es : List Entry) (content : Content) (key : List ℕ) (number : ℕ) (keys : List Keyed) (states : List ReceiptState) → IsBookOf s es → s.last_key ≡ Some key
+    → states ≡ s.states.items ++ state.Waiting 0 ∷ [] → number ≡ length states → keys ≡ s.keys.items ++ record { key = key; number = number } ∷ [] → HasKeys keys (es ++ Queued content ∷ [])
+queued_keyed s es content key number keys states book last states_are is are =
+    let count : number ≡ length (taken es) + 1 =
+    omega (arith, is, ap length states_are, length-append s.states.items (state.Waiting 0 ∷ []), ap length book.states, count_states es) in
+    subst (λ ks. HasKeys ks (es ++ Queued content ∷ [])) (sym are) (keys_after_keyed s.keys.items es content key number (sym book.last_key ∙ last) count book.keys)
+
+pub queued_plain : (s : Book) (es : List Entry) (content : Content) (keys : List Keyed) → IsBookOf s es → s.last_key ≡ None → keys ≡ s.keys.items → HasKeys keys (es ++ Queued content ∷ [])
+queued_plain s es content keys book last are =
+    subst (λ ks. HasKeys ks (es ++ Queued content ∷ [])) (sym are) (keys_after_plain s.keys.items es content (sym book.last_key ∙ last) book.keys)
 
 -- How often a receipt was tried is what its state says.
 pub tried_so : (s : Book) (es : List Entry) (n r : ℕ) (x : ReceiptState) → IsBookOf s es → 0 < n → r ≡ n → r - 1 < length s.states.items → x ≡ get_or s.states.items (r - 1) x
@@ -320,3 +383,10 @@ pub first_waits : (s : Book) (es : List Entry) (tried : ℕ) → IsBookOf s es �
 first_waits s es tried book waits =
     let back : s.first_waiting + 1 - 1 ≡ s.first_waiting = omega arith in
     (waits_by_state es (s.first_waiting + 1) tried (omega arith) (ap (slice_get (states es)) back ∙ ap (λ ss. slice_get ss s.first_waiting) (sym book.states) ∙ waits)).0
+
+-- ## Keys
+
+pub number_so : (s : Book) (es : List Entry) (key : List ℕ) (r : Option ℕ) → IsBookOf s es → MatchOption r ((n : ℕ) → ListsKey s.keys.items key n → ⊥) (λ n. ListsKey s.keys.items key n)
+    → MatchOption r ((n : ℕ) → HasKey es key n → ⊥) (λ n. HasKey es key n)
+number_so s es key None book none = λ n has. none n (book.keys.known key n has)
+number_so s es key (Some n) book lists = book.keys.listed key n lists

@@ -154,6 +154,7 @@ opens_not due first h s (inr (why, refused, is)) = not_at s (stage.HangingUp (no
 
 follows_not : (next : Then) (before : HostView) (first : ℕ) (b : Book) (h : HostView) (s : Stage) → Follows next before first b h s → Rests s → ⊥
 follows_not then.Queued before first b h s (number, count, same, is) = not_at s (stage.Telling (note.Queued number)) is (λ h. h)
+follows_not (then.Take content) before first b h s (same, is) = not_at s (stage.Keeping (entry.Queued content) then.Queued) is (λ h. h)
 follows_not then.Raised before first b h s (same, is) = not_at s (stage.Telling note.Raised) is (λ h. h)
 follows_not (then.Cancelled number tried) before first b h s (same, is) = not_at s (stage.Telling (note.Cancelled number tried)) is (λ h. h)
 follows_not (then.Send due) before first b h s opens = opens_not due first h s opens
@@ -161,6 +162,7 @@ follows_not (then.Recorded number) before first b h s (drops, is) = not_at s (st
 
 lost_not : (next : Then) (why : StoreFault) → Rests (lost next why) → ⊥
 lost_not then.Queued why h = h
+lost_not (then.Take content) why h = h
 lost_not then.Raised why h = h
 lost_not (then.Cancelled number tried) why h = h
 lost_not (then.Send due) why h = h
@@ -179,6 +181,7 @@ revised_not (then.Send due) b before h s (inr (inr (tried, cancelled, drops, is)
 revised_not (then.Recorded n) b before h s (inl (waits, same, is)) = not_at s (printed n) is (λ h. h)
 revised_not (then.Recorded n) b before h s (inr (tried, cancelled, drops, is)) = not_at s (stage.HangingUp (note.Cancelled n tried)) is (λ h. h)
 revised_not then.Queued b before h s none = absurd none
+revised_not (then.Take content) b before h s none = absurd none
 revised_not then.Raised b before h s none = absurd none
 revised_not (then.Cancelled n tried) b before h s none = absurd none
 

@@ -10,7 +10,7 @@ use Rattle.std.proofs.lemmas.List.Sums.{count_by-le-length, sum_by-append}
 use Rattle.std.proofs.lemmas.Option.{same_Some, slice_get_within}
 use Rattle.escpos_till.specs.declared.entry.Content.{Content}
 use Rattle.escpos_till.specs.declared.entry.Entry.{Entry}
-use Rattle.escpos_till.specs.declared.entry.Entry.TheVariants.{Queued, Tried, Recorded, Raised, Cancelled}
+use Rattle.escpos_till.specs.declared.entry.Entry.TheVariants.{Queued, Tried, Recorded, Raised, Cancelled, Key}
 use Rattle.escpos_till.specs.declared.state.ReceiptState.TheVariants as state
 use Rattle.escpos_till.specs.Delivers.{FirstWaits}
 use Rattle.escpos_till.specs.Entries.{IsLedger, MayFollow, Taken, Waits, cancel_of, cancel_place_of, cancelled, content_of, contents, is_open, is_try_of, last_or, next_free, next_of, numbered_from, place_of, record_of, recorded, state_by, state_of, states, taken, times_tried, waiting}
@@ -148,9 +148,12 @@ next_after_recorded es n = ap (last_or 0) (nexts-snoc es (Recorded n) ∙ append
 pub next_after_cancelled : (es : List Entry) (n : ℕ) → next_free (es ++ Cancelled n ∷ []) ≡ next_free es
 next_after_cancelled es n = ap (last_or 0) (nexts-snoc es (Cancelled n) ∙ append-nil (filter_map next_of es))
 
+pub next_after_key : (es : List Entry) (key : List ℕ) → next_free (es ++ Key key ∷ []) ≡ next_free es
+next_after_key es key = ap (last_or 0) (nexts-snoc es (Key key) ∙ append-nil (filter_map next_of es))
+
 -- ## Ledgers
 
-split_snoc : {X : Type 0} (xs before : List X) (x y : X) (following : List X) → xs ++ x ∷ [] ≡ before ++ y ∷ following
+pub split_snoc : {X : Type 0} (xs before : List X) (x y : X) (following : List X) → xs ++ x ∷ [] ≡ before ++ y ∷ following
     → ((before ≡ xs) × (y ≡ x)) ⊎ ((more : List X) × (xs ≡ before ++ y ∷ more))
 split_snoc [] [] x y following e = inl (refl, cc)
 split_snoc (z ∷ xs) [] x y following e =
@@ -224,6 +227,10 @@ unknown_in before (Cancelled m ∷ es) n h few =
     (subst (λ front. length (contents front) < n) (sym (append_assoc before (Cancelled m ∷ []) es)) few) in
     let other : (m == n) ≡ false = is_other m n (below_count before (Cancelled m ∷ es) m n (first_follows before (Cancelled m) es h) few) in
     (omega (arith, rest.0), rest.1, λ i. ap (λ b. cond b (Some i) (position_from (λ k. k == n) (i + 1) (cancelled es))) other ∙ rest.2 (i + 1))
+unknown_in before (Key key ∷ es) n h few =
+    let rest = unknown_in (before ++ Key key ∷ []) es n (continues_later before (Key key) es h)
+    (subst (λ front. length (contents front) < n) (sym (append_assoc before (Key key ∷ []) es)) few) in
+    (omega (arith, rest.0), rest.1, rest.2)
 
 unknown : (es : List Entry) (n : ℕ) → IsLedger es → length (contents es) < n → IsUnknown es n
 unknown es n ledger few = unknown_in [] es n ledger few
@@ -256,6 +263,13 @@ states_after_queued es content ledger =
 pub states_after_raised : (es : List Entry) (next : ℕ) → states (es ++ Raised next ∷ []) ≡ states es
 states_after_raised es next =
     let e : Entry = Raised next in
+    let more : List Entry = es ++ e ∷ [] in
+    ap (λ cs. map (λ t. state_of more t.number) (numbered_from 1 cs)) (same_contents es e refl)
+    ∙ numbered-same (state_of es) (state_of more) 1 (contents es) (λ k le. state_at more es k k (same_place es e k refl) (same_cancel es e k refl) (same_times es e k refl))
+
+pub states_after_key : (es : List Entry) (key : List ℕ) → states (es ++ Key key ∷ []) ≡ states es
+states_after_key es key =
+    let e : Entry = Key key in
     let more : List Entry = es ++ e ∷ [] in
     ap (λ cs. map (λ t. state_of more t.number) (numbered_from 1 cs)) (same_contents es e refl)
     ∙ numbered-same (state_of es) (state_of more) 1 (contents es) (λ k le. state_at more es k k (same_place es e k refl) (same_cancel es e k refl) (same_times es e k refl))
@@ -378,6 +392,7 @@ few_records (Tried n next ∷ es) = omega (arith, few_records es)
 few_records (Recorded n ∷ es) = omega (arith, few_records es)
 few_records (Raised next ∷ es) = omega (arith, few_records es)
 few_records (Cancelled n ∷ es) = omega (arith, few_records es)
+few_records (Key key ∷ es) = omega (arith, few_records es)
 
 pub count_states : (es : List Entry) → length (states es) ≡ length (taken es)
 count_states es = length-states es ∙ sym (length-taken 1 (contents es))

@@ -78,6 +78,7 @@ others_record (Tried n next ∷ es) (this, more) = absurd this
 others_record (Recorded n ∷ es) (this, more) = absurd this
 others_record (Raised next ∷ es) (this, more) = others_record es more
 others_record (Cancelled n ∷ es) (this, more) = others_record es more
+others_record (entry.Key key ∷ es) (this, more) = others_record es more
 
 pub others_recorded : (es others : List Entry) → AllByRecursion IsOthers others → recorded (es ++ others) ≡ recorded es
 others_recorded es others all = filter_map-append record_of es others ∙ ap (λ rs. recorded es ++ rs) (others_record others all) ∙ append-nil (recorded es)
@@ -89,6 +90,7 @@ others_try (Tried m next ∷ es) n (this, more) = absurd this
 others_try (Recorded m ∷ es) n (this, more) = absurd this
 others_try (Raised next ∷ es) n (this, more) = others_try es n more
 others_try (Cancelled m ∷ es) n (this, more) = others_try es n more
+others_try (entry.Key key ∷ es) n (this, more) = others_try es n more
 
 pub others_tried : (es others : List Entry) (n : ℕ) → AllByRecursion IsOthers others → times_tried (es ++ others) n ≡ times_tried es n
 others_tried es others n all =
@@ -126,8 +128,10 @@ waits_to_follow es (Queued content) (then.Recorded k) n follows suits is = absur
 waits_to_follow es (Tried m next) (then.Recorded k) n follows suits is = absurd suits
 waits_to_follow es (Raised next) (then.Recorded k) n follows suits is = absurd suits
 waits_to_follow es (Cancelled m) (then.Recorded k) n follows suits is = absurd suits
+waits_to_follow es (entry.Key key) (then.Recorded k) n follows suits is = absurd suits
 waits_to_follow es e (then.Send due) n follows suits is = absurd (let bad : then.Send due ≡ then.Recorded n = is in cc)
 waits_to_follow es e then.Queued n follows suits is = absurd (let bad : then.Queued ≡ then.Recorded n = is in cc)
+waits_to_follow es e (then.Take content) n follows suits is = absurd (let bad : then.Take content ≡ then.Recorded n = is in cc)
 waits_to_follow es e then.Raised n follows suits is = absurd (let bad : then.Raised ≡ then.Recorded n = is in cc)
 waits_to_follow es e (then.Cancelled m tried) n follows suits is = absurd (let bad : then.Cancelled m tried ≡ then.Recorded n = is in cc)
 
@@ -137,6 +141,7 @@ waits_to_send es (Queued content) due follows suits = absurd suits
 waits_to_send es (Recorded m) due follows suits = absurd suits
 waits_to_send es (Raised next) due follows suits = absurd suits
 waits_to_send es (Cancelled m) due follows suits = absurd suits
+waits_to_send es (entry.Key key) due follows suits = absurd suits
 
 -- What a machine delivers stands, once it has learned of the others.
 pub stands_then : (b' : Book) (es others : List Entry) (e : Entry) (next : Then) → IsBookOf b' (es ++ others) → AllByRecursion IsOthers others → MayFollow es e → Suits next e
@@ -145,6 +150,7 @@ stands_then b' es others e (then.Send due) book all follows suits = stands_after
 stands_then b' es others e (then.Recorded n) book all follows suits =
     stands_after b' es others n book all (waits_to_follow es e (then.Recorded n) n follows suits refl).0
 stands_then b' es others e then.Queued book all follows suits = tt
+stands_then b' es others e (then.Take content) book all follows suits = tt
 stands_then b' es others e then.Raised book all follows suits = tt
 stands_then b' es others e (then.Cancelled n tried) book all follows suits = tt
 
@@ -157,7 +163,8 @@ fits_revised b es others e (then.Send due) before h s book all follows suits few
       refl,
       few,
       (λ content bad. absurd (let no : entry.Tried due.number (b.next + marks_taken due.openings) ≡ entry.Queued content = bad in cc)),
-      λ number last same. room,
+      (λ number last same. room),
+      λ content bad. absurd (let no : then.Send due ≡ then.Take content = bad in cc),
     )
 fits_revised b es others e (then.Send due) before h s book all follows suits few room (inr (inl (none, drops, is))) = subst (Fits b (es ++ others)) (sym is) tt
 fits_revised b es others e (then.Send due) before h s book all follows suits few room (inr (inr (tried, cancelled, drops, is))) = subst (Fits b (es ++ others)) (sym is) tt
@@ -167,6 +174,7 @@ fits_revised b es others e (then.Recorded n) before h s book all follows suits f
     subst (Fits b (es ++ others)) (sym is) (fits_printed b (es ++ others) n (waits (es ++ others) book) tried (omega (arith, few)))
 fits_revised b es others e (then.Recorded n) before h s book all follows suits few room (inr (tried, cancelled, drops, is)) = subst (Fits b (es ++ others)) (sym is) tt
 fits_revised b es others e then.Queued before h s book all follows suits few room none = absurd none
+fits_revised b es others e (then.Take content) before h s book all follows suits few room none = absurd none
 fits_revised b es others e then.Raised before h s book all follows suits few room none = absurd none
 fits_revised b es others e (then.Cancelled n tried) before h s book all follows suits few room none = absurd none
 

@@ -1,5 +1,6 @@
 mod Worked
 pub mod EntryLemmas
+pub mod KeyLemmas
 pub mod StateLemmas
 pub mod CopyLemmas
 pub mod DriverLemmas

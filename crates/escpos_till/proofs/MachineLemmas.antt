@@ -20,8 +20,11 @@ use Rattle.escpos_host.specs.declared.host.HostError.{HostError}
 use Rattle.escpos_host.specs.declared.send.SendFault.TheVariants as fault
 use Rattle.escpos_till.specs.declared.machine.TillNote.TheVariants as note
 use Rattle.escpos_till.specs.declared.state.ReceiptState.TheVariants as state
-use Rattle.escpos_till.specs.Entries.{MayFollow, Waits, states, times_tried}
-use Rattle.escpos_till.specs.Machine.{Came, Drops, Fits, RefusesSending, Follows, GoesOn, HearsOne, Opens, Submits, Suits, Turns, most_entries, printed, with_pause}
+use Rattle.escpos_till.specs.declared.entry.Content.{Content}
+use Rattle.std.specs.Prelude.{MatchOption}
+use Rattle.escpos_till.specs.Book.{HasRoom, IsBookOf, NeedsNoRoom}
+use Rattle.escpos_till.specs.Entries.{HasKey, MayFollow, Waits, states, times_tried}
+use Rattle.escpos_till.specs.Machine.{Came, Drops, Fits, RefusesSending, Follows, GoesOn, HearsOne, IsKnown, IsNew, Opens, Submits, Suits, Turns, most_entries, printed, taking, with_pause}
 use Rattle.escpos_till.proofs.BookLemmas.{get-here}
 use Rattle.escpos_till.proofs.EntryLemmas.{some_state, tried_states, waits_by_state, within_states}
 
@@ -55,6 +58,7 @@ fits_printed b es n waits tried few = (
   omega (arith, few),
   λ content is. absurd (let bad : entry.Recorded n ≡ entry.Queued content = is in cc),
   λ number next is. absurd (let bad : entry.Recorded n ≡ entry.Tried number next = is in cc),
+  λ content is. absurd (let bad : then.Recorded n ≡ then.Take content = is in cc),
 )
 
 pub fits_turns : (b : Book) (es : List Entry) (e : HostEvent) (talk : Talk) (left : ℕ) (before h : HostView) (s : Stage) → Fits b es (stage.Talking talk) → Turns b e talk left before h s → Fits b es s
@@ -84,14 +88,39 @@ fits_sent b es (entry.Queued content) due first h s follows suits few opens = ab
 fits_sent b es (entry.Recorded n) due first h s follows suits few opens = absurd suits
 fits_sent b es (entry.Raised next) due first h s follows suits few opens = absurd suits
 fits_sent b es (entry.Cancelled n) due first h s follows suits few opens = absurd suits
+fits_sent b es (entry.Key key) due first h s follows suits few opens = absurd suits
+
+-- The receipt whose key is kept may be taken next, and there is room for it.
+needs_none : (e : Entry) (content : Content) → Suits (then.Take content) e → NeedsNoRoom e
+needs_none (entry.Key key) content suits = tt
+needs_none (entry.Raised next) content suits = tt
+needs_none (entry.Queued c) content suits = absurd suits
+needs_none (entry.Tried n next) content suits = absurd suits
+needs_none (entry.Recorded n) content suits = absurd suits
+needs_none (entry.Cancelled n) content suits = absurd suits
+
+fits_taken : (b b' : Book) (es : List Entry) (e : Entry) (content : Content) → Suits (then.Take content) e → length es + 1 < most_entries → HasRoom b → (NeedsNoRoom e → HasRoom b → HasRoom b')
+    → Fits b' (es ++ e ∷ []) (stage.Keeping (entry.Queued content) then.Queued)
+fits_taken b b' es e content suits few room stays =
+    let long : length (es ++ e ∷ []) ≡ length es + 1 = length-append es (e ∷ []) in (
+      tt,
+      tt,
+      omega (arith, few, long),
+      λ c is. stays (needs_none e content suits) room,
+      λ number next is. absurd (let bad : entry.Queued content ≡ entry.Tried number next = is in cc),
+      λ c is. absurd (let bad : then.Queued ≡ then.Take c = is in cc),
+    )
 
 pub fits_follows : (b b' : Book) (es : List Entry) (e : Entry) (next : Then) (before : HostView) (first : ℕ) (h : HostView) (s : Stage) → Fits b es (stage.Keeping e next)
-    → Follows next before first b' h s → Fits b' (es ++ e ∷ []) s
-fits_follows b b' es e then.Queued before first h s fits so = subst (Fits b' (es ++ e ∷ [])) (sym so.3) tt
-fits_follows b b' es e then.Raised before first h s fits so = subst (Fits b' (es ++ e ∷ [])) (sym so.1) tt
-fits_follows b b' es e (then.Cancelled number tried) before first h s fits so = subst (Fits b' (es ++ e ∷ [])) (sym so.1) tt
-fits_follows b b' es e (then.Send due) before first h s fits so = fits_sent b' es e due first h s fits.0 fits.1 fits.2 so
-fits_follows b b' es e (then.Recorded number) before first h s fits so = subst (Fits b' (es ++ e ∷ [])) (sym so.1) tt
+    → (NeedsNoRoom e → HasRoom b → HasRoom b') → Follows next before first b' h s → Fits b' (es ++ e ∷ []) s
+fits_follows b b' es e then.Queued before first h s fits stays so = subst (Fits b' (es ++ e ∷ [])) (sym so.3) tt
+fits_follows b b' es e (then.Take content) before first h s fits stays so =
+    let (follows, suits, few, queued, tried, room) = fits in
+    subst (Fits b' (es ++ e ∷ [])) (sym so.1) (fits_taken b b' es e content suits few (room content refl) stays)
+fits_follows b b' es e then.Raised before first h s fits stays so = subst (Fits b' (es ++ e ∷ [])) (sym so.1) tt
+fits_follows b b' es e (then.Cancelled number tried) before first h s fits stays so = subst (Fits b' (es ++ e ∷ [])) (sym so.1) tt
+fits_follows b b' es e (then.Send due) before first h s fits stays so = fits_sent b' es e due first h s fits.0 fits.1 fits.2 so
+fits_follows b b' es e (then.Recorded number) before first h s fits stays so = subst (Fits b' (es ++ e ∷ [])) (sym so.1) tt
 
 -- A receipt that was taken has a state.
 pub state_of_taken : (es : List Entry) (e : Entry) → Suits then.Queued e → 0 < length (states (es ++ e ∷ []))
@@ -100,6 +129,7 @@ state_of_taken es (entry.Tried n next) suits = absurd suits
 state_of_taken es (entry.Recorded n) suits = absurd suits
 state_of_taken es (entry.Raised next) suits = absurd suits
 state_of_taken es (entry.Cancelled n) suits = absurd suits
+state_of_taken es (entry.Key key) suits = absurd suits
 
 -- What came over a link, as it is told of the machine's parts.
 pub came_so : (talk : Talk) (now : Stage) (b inside : Book) (h host : HostView) (bytes : List ℕ) (consumed : ℕ) (e : HostEvent) (heard : HostView) (left : ℕ) (after : HostView) (s : Stage)
@@ -146,3 +176,38 @@ pub refuses_so : (talk : Talk) (held : Option (List Command)) (receipt : List Co
 refuses_so talk held receipt zero before h s why has some refuses drops is = absurd (omega (arith, some))
 refuses_so talk held receipt (suc left) before h s why has some refuses drops is =
     subst (λ r. Submits talk r (suc left) before h s) (sym has) (inr (why, refuses, drops, is))
+
+-- ## Keys
+
+pub known_so : (b : Book) (key : List ℕ) (r : Option ℕ) → ((es : List Entry) → IsBookOf b es → MatchOption r ((n : ℕ) → HasKey es key n → ⊥) (λ n. HasKey es key n))
+    → MatchOption r (IsNew b (Some key)) (λ n. IsKnown b (Some key) n)
+known_so b key None says = says
+known_so b key (Some n) says = says
+
+-- What is kept first of a receipt fits, where no receipt has its key.
+pub fits_taking : (b old : Book) (es : List Entry) (key last : Option (List ℕ)) (content : Content) → IsBookOf b es → IsBookOf old es → IsNew old key → length es + 1 < most_entries → HasRoom b
+    → Fits b es (taking key last b.next content)
+fits_taking b old es (Some key) last content book was new few room = (
+  new es was,
+  tt,
+  few,
+  λ c is. absurd (let bad : entry.Key key ≡ entry.Queued c = is in cc),
+  λ number next is. absurd (let bad : entry.Key key ≡ entry.Tried number next = is in cc),
+  λ c is. room,
+)
+fits_taking b old es None (Some last) content book was new few room = (
+  omega (arith, book.next),
+  tt,
+  few,
+  λ c is. absurd (let bad : entry.Raised b.next ≡ entry.Queued c = is in cc),
+  λ number next is. absurd (let bad : entry.Raised b.next ≡ entry.Tried number next = is in cc),
+  λ c is. room,
+)
+fits_taking b old es None None content book was new few room = (
+  tt,
+  tt,
+  omega (arith, few),
+  λ c is. room,
+  λ number next is. absurd (let bad : entry.Queued content ≡ entry.Tried number next = is in cc),
+  λ c is. absurd (let bad : then.Queued ≡ then.Take c = is in cc),
+)

@@ -1,10 +1,10 @@
 -- The definitions of `specs/Entries.antt`, computed on a small ledger.
-use Rattle.std.proofs.Common.{◌≡◌, List, [], ◌∷◌, refl}
+use Rattle.std.proofs.Common.{◌≡◌, List, [], ◌∷◌, Some, refl}
 use Rattle.escpos_till.specs.declared.entry.Entry.{Entry}
-use Rattle.escpos_till.specs.declared.entry.Entry.TheVariants.{Queued, Tried, Recorded, Raised}
+use Rattle.escpos_till.specs.declared.entry.Entry.TheVariants.{Queued, Tried, Recorded, Raised, Key}
 use Rattle.escpos_till.specs.declared.state.ReceiptState.TheVariants as state
 use Rattle.escpos_till.specs.Contents.{plain}
-use Rattle.escpos_till.specs.Entries.{next_free, taken, recorded, waiting, times_tried, states}
+use Rattle.escpos_till.specs.Entries.{HasKey, next_free, taken, recorded, waiting, times_tried, states, last_key}
 
 -- Three receipts are taken; the first is tried twice and recorded, the third is tried once.
 abbrev worked : List Entry
@@ -31,3 +31,17 @@ worked_states = refl
 
 nothing : next_free [] ≡ 0
 nothing = refl
+
+-- Two receipts are taken with keys; the second key is void, since another entry follows it, and so is the last.
+abbrev keyed : List Entry
+keyed =
+    Key (65 ∷ []) ∷ Queued (plain (91 ∷ [])) ∷ Key (66 ∷ []) ∷ Key (67 ∷ []) ∷ Queued (plain (93 ∷ [])) ∷ Key (68 ∷ []) ∷ []
+
+first_key : HasKey keyed (65 ∷ []) 1
+first_key = record { before = []; content = plain (91 ∷ []); following = Key (66 ∷ []) ∷ Key (67 ∷ []) ∷ Queued (plain (93 ∷ [])) ∷ Key (68 ∷ []) ∷ []; entries_are = refl; number_is = refl }
+
+third_key : HasKey keyed (67 ∷ []) 2
+third_key = record { before = Key (65 ∷ []) ∷ Queued (plain (91 ∷ [])) ∷ Key (66 ∷ []) ∷ []; content = plain (93 ∷ []); following = Key (68 ∷ []) ∷ []; entries_are = refl; number_is = refl }
+
+last : last_key keyed ≡ Some (68 ∷ [])
+last = refl

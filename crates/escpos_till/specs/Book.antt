@@ -3,8 +3,11 @@ use Rattle.std.specs.Prelude.{ℕ, ◌≡◌, ◌<◌, Some, List, [], ◌∷◌
 use Rattle.escpos_till.specs.declared.book.Book.{Book}
 use Rattle.escpos_till.specs.declared.entry.Content.{Content}
 use Rattle.escpos_till.specs.declared.entry.Entry.{Entry}
+use Rattle.escpos_till.specs.declared.entry.Entry.TheVariants as entry
 use Rattle.escpos_till.specs.declared.state.ReceiptState.TheVariants as state
-use Rattle.escpos_till.specs.Entries.{IsLedger, MayFollow, contents, next_free, recorded, states}
+use Rattle.escpos_till.specs.declared.keyed.Keyed.{Keyed}
+use Rattle.escpos_till.specs.Entries.{HasKey, IsLedger, MayFollow, contents, last_key, next_free, recorded, states}
+use Rattle.escpos_till.specs.Keyed.{ListsKey}
 use Rattle.escpos_till.specs.States.{IsFirstWaiting}
 use Rattle.escpos_till.specs.Tries.{tries}
 
@@ -14,6 +17,11 @@ pub record HasContents (kept : List Content) (entries : List Entry) : Type 0 whe
   pub waiting : (k tried : ℕ) (content : Content) → slice_get (states entries) k ≡ Some (state.Waiting tried)
       → slice_get (contents entries) k ≡ Some content → slice_get kept k ≡ Some content
 
+-- These are the keys of the receipts, each with its receipt's number.
+pub record HasKeys (keys : List Keyed) (entries : List Entry) : Type 0 where
+  pub known : (key : List ℕ) (number : ℕ) → HasKey entries key number → ListsKey keys key number
+  pub listed : (key : List ℕ) (number : ℕ) → ListsKey keys key number → HasKey entries key number
+
 -- It is the book of these entries.
 pub record IsBookOf (b : Book) (entries : List Entry) : Type 0 where
   pub states : b.states.items ≡ states entries
@@ -21,6 +29,8 @@ pub record IsBookOf (b : Book) (entries : List Entry) : Type 0 where
   pub first_waiting : IsFirstWaiting b.states.items b.first_waiting
   pub recorded : b.recorded ≡ length (recorded entries)
   pub tries : b.tries.items ≡ tries entries
+  pub keys : HasKeys b.keys.items entries
+  pub last_key : b.last_key ≡ last_key entries
   pub next : b.next ≡ next_free entries
   pub count : b.count ≡ length entries
 
@@ -28,11 +38,18 @@ pub record IsBookOf (b : Book) (entries : List Entry) : Type 0 where
 abbrev pub Notes : Book → Entry → Book → Type 0
 Notes old e new = (entries : List Entry) → IsBookOf old entries → IsLedger entries → MayFollow entries e → IsBookOf new (entries ++ e ∷ [])
 
--- There is room for one more receipt.
+-- There is room for one more receipt, with a key.
 pub record HasRoom (b : Book) : Type 0 where
   pub states : length b.states.items < b.states.cap
   pub contents : length b.contents.items < b.contents.cap
+  pub keys : length b.keys.items < b.keys.cap
 
 -- There is room for one more try.
 abbrev pub HasTryRoom : Book → Type 0
 HasTryRoom b = length b.tries.items < b.tries.cap
+
+-- The entry needs no room.
+abbrev pub NeedsNoRoom : Entry → Type 0
+NeedsNoRoom (entry.Raised next) = Unit {0}
+NeedsNoRoom (entry.Key key) = Unit {0}
+NeedsNoRoom e = ⊥

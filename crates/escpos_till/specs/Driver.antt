@@ -165,8 +165,8 @@ RanQuietly did m old after new count = (ran : RanFor did m old after new count) 
 
 -- A call of a machine at rest.
 pub data Call : Type 0 where
-  -- a receipt with this content is to be taken
-  Queue : Content → Call
+  -- a receipt with this content is to be taken, which comes with this key or with none
+  Queue : Content → Option (List ℕ) → Call
   -- the next mark number is to be this
   Raise : ℕ → Call
   -- the receipt with this number is to be cancelled
@@ -176,7 +176,7 @@ pub data Call : Type 0 where
 
 -- It is made, and what is to be sent is a receipt.
 abbrev pub Calls : MachineView → Call → MachineView → Type 0
-Calls m (Queue content) asked = Queues m content asked
+Calls m (Queue content key) asked = Queues m content key asked
 Calls m (Raise first) asked = Raises m first asked
 Calls m (Cancel number) asked = Cancels m number asked
 Calls m (Deliver openings most copy) asked = Delivers m openings most copy asked × SendsReceipt asked.stage

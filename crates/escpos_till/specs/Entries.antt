@@ -16,6 +16,7 @@ next_of (entry.Tried number next) = Some next
 next_of (entry.Recorded number) = None
 next_of (entry.Raised next) = Some next
 next_of (entry.Cancelled number) = None
+next_of (entry.Key key) = None
 
 -- The last of some numbers; this one if there are none.
 abbrev pub last_or : ℕ → List ℕ → ℕ
@@ -34,6 +35,7 @@ content_of (entry.Tried number next) = None
 content_of (entry.Recorded number) = None
 content_of (entry.Raised next) = None
 content_of (entry.Cancelled number) = None
+content_of (entry.Key key) = None
 
 -- The contents of the receipts that were taken, in the order of taking.
 abbrev pub contents : List Entry → List Content
@@ -58,6 +60,7 @@ record_of (entry.Tried number next) = None
 record_of (entry.Recorded number) = Some number
 record_of (entry.Raised next) = None
 record_of (entry.Cancelled number) = None
+record_of (entry.Key key) = None
 
 -- The numbers of the receipts that are recorded, in the order of recording.
 abbrev pub recorded : List Entry → List ℕ
@@ -77,6 +80,7 @@ cancel_of (entry.Tried number next) = None
 cancel_of (entry.Recorded number) = None
 cancel_of (entry.Raised next) = None
 cancel_of (entry.Cancelled number) = Some number
+cancel_of (entry.Key key) = None
 
 -- The numbers of the receipts that are cancelled, in the order of cancelling.
 abbrev pub cancelled : List Entry → List ℕ
@@ -100,6 +104,7 @@ is_try_of number (entry.Tried n next) = n == number
 is_try_of number (entry.Recorded n) = false
 is_try_of number (entry.Raised next) = false
 is_try_of number (entry.Cancelled n) = false
+is_try_of number (entry.Key key) = false
 
 -- How often a receipt was sent, or was about to be.
 abbrev pub times_tried : List Entry → ℕ → ℕ
@@ -118,6 +123,34 @@ state_of entries number = state_by (place_of entries number) (cancel_place_of en
 abbrev pub states : List Entry → List ReceiptState
 states entries = map (λ receipt. state_of entries receipt.number) (taken entries)
 
+-- ## Keys
+
+-- The receipt with this number has this key: an entry says the key, and the one directly after it takes the receipt. A key that no receipt
+-- follows so is void.
+pub record HasKey (entries : List Entry) (key : List ℕ) (number : ℕ) : Type 0 where
+  pub before : List Entry
+  pub content : Content
+  pub following : List Entry
+  pub entries_are : entries ≡ before ++ entry.Key key ∷ entry.Queued content ∷ following
+  pub number_is : number ≡ length (taken before) + 1
+
+abbrev pub key_of : Entry → Option (List ℕ)
+key_of (entry.Queued content) = None
+key_of (entry.Tried number next) = None
+key_of (entry.Recorded number) = None
+key_of (entry.Raised next) = None
+key_of (entry.Cancelled number) = None
+key_of (entry.Key key) = Some key
+
+-- The key that the last of some entries says; this one if there are none.
+abbrev pub last_key_or : Option (List ℕ) → List Entry → Option (List ℕ)
+last_key_or key [] = key
+last_key_or key (e ∷ es) = last_key_or (key_of e) es
+
+-- The key that the last entry says: a receipt that was taken directly after it would have it.
+abbrev pub last_key : List Entry → Option (List ℕ)
+last_key entries = last_key_or None entries
+
 -- ## Ledgers
 
 -- The receipt with this number was taken, and is neither recorded nor cancelled.
@@ -128,13 +161,14 @@ pub record Waits (entries : List Entry) (number : ℕ) : Type 0 where
   pub not_cancelled : cancel_place_of entries number ≡ None
 
 -- In a ledger the entry may come after these. Only a receipt that waits is tried or cancelled; only one that was tried, and
--- waits, is recorded. The next mark number never falls, and each try raises it.
+-- waits, is recorded. The next mark number never falls, and each try raises it. A key is said only while no receipt has it.
 abbrev pub MayFollow : List Entry → Entry → Type 0
 MayFollow before (entry.Queued content) = Unit {0}
 MayFollow before (entry.Tried number next) = Waits before number × (next_free before < next)
 MayFollow before (entry.Recorded number) = Waits before number × (0 < times_tried before number)
 MayFollow before (entry.Raised next) = next_free before ≤ next
 MayFollow before (entry.Cancelled number) = Waits before number
+MayFollow before (entry.Key key) = (number : ℕ) → HasKey before key number → ⊥
 
 -- The entries are a ledger: each of them may come after those before it.
 abbrev pub IsLedger : List Entry → Type 0

@@ -1,7 +1,7 @@
 -- What a machine does when it learns that others have added entries to its ledger.
 --
--- A machine that delivers has its ledger to itself only while it keeps an entry. Between two of its entries others may take receipts, raise the
--- next mark number and cancel receipts. None of them tries a receipt or records one, since no two machines deliver at the same time.
+-- A machine that delivers has its ledger to itself only while it keeps an entry. Between two of its entries others may take receipts, with keys or
+-- without, raise the next mark number and cancel receipts. None of them tries a receipt or records one, since no two machines deliver at the same time.
 use Rattle.std.specs.Prelude.{ℕ, ◌≡◌, ◌⊎◌, ◌+◌, ◌<◌, ◌≤◌, List, [], ◌∷◌, ◌++◌, length}
 use Rattle.std.specs.List.{AllByRecursion}
 use Rattle.escpos_command.specs.Digits.{mark_count}
@@ -33,6 +33,7 @@ IsOthers (entry.Tried number next) = ⊥
 IsOthers (entry.Recorded number) = ⊥
 IsOthers (entry.Raised next) = Unit {0}
 IsOthers (entry.Cancelled number) = Unit {0}
+IsOthers (entry.Key key) = Unit {0}
 
 -- In a ledger each of these entries may come after those, and after the ones before it.
 abbrev pub FollowAll : List Entry → List Entry → Type 0

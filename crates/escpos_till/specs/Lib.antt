@@ -1,5 +1,7 @@
 pub mod Contents
 pub mod Appending
+pub mod Keys
+pub mod Keyed
 pub mod Entries
 pub mod Tries
 pub mod Pauses

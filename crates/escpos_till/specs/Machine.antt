@@ -37,7 +37,7 @@ use Rattle.escpos_till.specs.Pauses.{IsAfterBlock, no_news, not_paused}
 use Rattle.escpos_till.specs.Tries.{ClosesTry}
 use Rattle.escpos_till.specs.Contents.{GivesReceipt, IsContentFault}
 use Rattle.escpos_till.specs.Delivers.{Due as IsDue, FirstWaits, fresh, marks_taken}
-use Rattle.escpos_till.specs.Entries.{IsLedger, MayFollow, Waits, next_free, state_of, taken, times_tried, waiting}
+use Rattle.escpos_till.specs.Entries.{HasKey, IsLedger, MayFollow, Waits, next_free, state_of, taken, times_tried, waiting}
 
 -- ## The model of a machine
 
@@ -64,6 +64,8 @@ last_first = mark_count - 2
 -- What follows suits the entry.
 abbrev pub Suits : Then → Entry → Type 0
 Suits then.Queued (entry.Queued content) = Unit {0}
+Suits (then.Take content) (entry.Key key) = Unit {0}
+Suits (then.Take content) (entry.Raised next) = Unit {0}
 Suits then.Raised (entry.Raised next) = Unit {0}
 Suits (then.Send due) (entry.Tried number next) = number ≡ due.number
 Suits (then.Recorded number) (entry.Recorded n) = n ≡ number
@@ -73,6 +75,7 @@ Suits next e = ⊥
 -- How many entries may follow that one before the machine is at rest.
 abbrev pub entries_to_come : Then → ℕ
 entries_to_come (then.Send due) = 1
+entries_to_come (then.Take content) = 1
 entries_to_come next = 0
 
 -- The receipt may be tried.
@@ -93,7 +96,7 @@ EndsFinally s = Unit {0}
 abbrev pub Fits : Book → List Entry → Stage → Type 0
 Fits b es (stage.Connecting due) = MayTry es due × HasTryRoom b
 Fits b es (stage.Keeping e next) = MayFollow es e × Suits next e × (length es + entries_to_come next < most_entries) × ((content : Content) → e ≡ entry.Queued content → HasRoom b)
-    × ((number next : ℕ) → e ≡ entry.Tried number next → HasTryRoom b)
+    × ((number next : ℕ) → e ≡ entry.Tried number next → HasTryRoom b) × ((content : Content) → next ≡ then.Take content → HasRoom b)
 Fits b es (stage.Talking talk) = Waits es talk.number × (0 < times_tried es talk.number) × (length es < most_entries)
 Fits b es (stage.HangingUp n) = IsFinal n
 Fits b es (stage.Telling n) = IsFinal n
@@ -157,13 +160,31 @@ Rests s = ⊥
 
 -- ## Calls of a machine at rest
 
--- It is to keep that a receipt with this content is taken.
-pub record Queues (m : MachineView) (content : Content) (after : MachineView) : Type 0 where
+-- A key is known if a receipt has it, which has this number then; it is new if none has it. Where there is no key, that is as with a new one.
+abbrev pub IsKnown : Book → Option (List ℕ) → ℕ → Type 0
+IsKnown b (Some key) number = (entries : List Entry) → IsBookOf b entries → HasKey entries key number
+IsKnown b None number = ⊥
+
+abbrev pub IsNew : Book → Option (List ℕ) → Type 0
+IsNew b (Some key) = (entries : List Entry) → IsBookOf b entries → (number : ℕ) → HasKey entries key number → ⊥
+IsNew b None = Unit {0}
+
+-- What is to be kept first of a receipt: its key, or else the receipt itself. But where the last entry says a key that isn't this receipt's, the
+-- next mark number is said once more between them, so that the receipt doesn't get that key.
+abbrev pub taking : Option (List ℕ) → Option (List ℕ) → ℕ → Content → Stage
+taking (Some key) last next content = stage.Keeping (entry.Key key) (then.Take content)
+taking None (Some last) next content = stage.Keeping (entry.Raised next) (then.Take content)
+taking None None next content = stage.Keeping (entry.Queued content) then.Queued
+
+-- It is to keep that a receipt with this content is taken, which comes with this key or with none; or, if a receipt has the key, it is to tell
+-- that receipt's number.
+pub record Queues (m : MachineView) (content : Content) (key : Option (List ℕ)) (after : MachineView) : Type 0 where
   pub rest : m.stage ≡ stage.AtRest
   pub gives : GivesReceipt content
   pub host : after.host ≡ m.host
   pub book : (entries : List Entry) → IsBookOf m.book entries → IsBookOf after.book entries
-  pub keeps : after.stage ≡ stage.Keeping (entry.Queued content) then.Queued
+  pub goes : ((number : ℕ) × IsKnown m.book key number × (after.stage ≡ stage.Telling (note.Queued number)))
+      ⊎ (IsNew m.book key × (after.stage ≡ taking key m.book.last_key m.book.next content))
 
 -- It is to keep that the next mark number is this.
 pub record Raises (m : MachineView) (first : ℕ) (after : MachineView) : Type 0 where
@@ -266,6 +287,7 @@ Opens due first h s =
 -- What follows once the entry is kept, where this host was there, and this mark number was the next; the book is the new one.
 abbrev pub Follows : Then → HostView → ℕ → Book → HostView → Stage → Type 0
 Follows then.Queued before first b h s = (number : ℕ) × (number ≡ length b.states.items) × (h ≡ before) × (s ≡ stage.Telling (note.Queued number))
+Follows (then.Take content) before first b h s = (h ≡ before) × (s ≡ stage.Keeping (entry.Queued content) then.Queued)
 Follows then.Raised before first b h s = (h ≡ before) × (s ≡ stage.Telling note.Raised)
 Follows (then.Cancelled number tried) before first b h s = (h ≡ before) × (s ≡ stage.Telling (note.Cancelled number tried))
 Follows (then.Send due) before first b h s = Opens due first h s
@@ -279,6 +301,7 @@ Kept s m after = after ≡ m
 -- The store couldn't tell whether it is. The link, if there is one, is given up first.
 abbrev pub lost : Then → StoreFault → Stage
 lost then.Queued why = stage.Telling (note.NotKept why)
+lost (then.Take content) why = stage.Telling (note.NotKept why)
 lost then.Raised why = stage.Telling (note.NotKept why)
 lost (then.Cancelled number tried) why = stage.Telling (note.NotKept why)
 lost (then.Send due) why = stage.HangingUp (note.NotKept why)

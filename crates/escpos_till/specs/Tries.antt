@@ -13,6 +13,7 @@ try_of (entry.Tried number next) = Some (record { number = number; closing = nex
 try_of (entry.Recorded number) = None
 try_of (entry.Raised next) = None
 try_of (entry.Cancelled number) = None
+try_of (entry.Key key) = None
 
 -- All tries, in order.
 abbrev pub tries : List Entry → List Try

@@ -1,4 +1,4 @@
-//! What a till knows of its ledger: where the receipts stand, the contents of those that wait, and the next mark number.
+//! What a till knows of its ledger: where the receipts stand, the contents of those that wait, the keys, and the next mark number.
 //!
 //! `specs/Book.antt` says what it is of the entries.
 
@@ -9,12 +9,14 @@ ghost use Rattle.escpos_till.specs.declared.entry.Entry.TheVariants as entry_kin
 ghost use Rattle.escpos_till.specs.declared.state.ReceiptState.{ReceiptState};
 ghost use Rattle.escpos_till.specs.declared.state.ReceiptState.TheVariants as state_kind;
 ghost use Rattle.escpos_till.specs.Contents.{content_with};
-ghost use Rattle.escpos_till.specs.Book.{HasRoom, HasTryRoom, IsBookOf, Notes};
-ghost use Rattle.escpos_till.specs.Entries.{IsLedger, MayFollow, Waits, state_of, taken, times_tried, waiting};
+ghost use Rattle.escpos_till.specs.Book.{HasRoom, HasTryRoom, IsBookOf, NeedsNoRoom, Notes};
+ghost use Rattle.escpos_till.specs.Entries.{HasKey, IsLedger, MayFollow, Waits, state_of, taken, times_tried, waiting};
 ghost use Rattle.escpos_till.specs.Delivers.{FirstWaits};
 ghost use Rattle.escpos_till.specs.Learning.{FollowAll, NotesAll};
 
 use crate::entry::{Content, Entry};
+use crate::key::ReceiptKey;
+use crate::keyed::{Keyed, number_with};
 use crate::number::ReceiptNumber;
 use crate::state::{ReceiptState, first_waiting_from, once_cancelled, one_try_more, tries_in};
 use crate::tries::Try;
@@ -48,6 +50,10 @@ pub struct Book {
     pub(crate) recorded: usize,
     /// All tries of receipts, in order.
     pub(crate) tries: Vec<Try>,
+    /// The keys of receipts, each with its receipt's number.
+    pub(crate) keys: Vec<Keyed>,
+    /// The key that the last entry says, if it says one.
+    pub(crate) last_key: Option<ReceiptKey>,
     /// The next mark number.
     pub(crate) next: u32,
     /// How many entries there are.
@@ -56,6 +62,7 @@ pub struct Book {
 
 impl Book {
     /// The book of no entries. Allocates nothing.
+    #[tactic(auto, using(crate::proofs::KeyLemmas::no_keys))]
     pub(crate) fn new(alloc: Global) -> Self
         ensures { IsBookOf result [] }
     {
@@ -65,6 +72,8 @@ impl Book {
             first_waiting: 0,
             recorded: 0,
             tries: Vec::new(alloc),
+            keys: Vec::new(alloc),
+            last_key: None,
             next: 0,
             count: 0,
         }
@@ -119,6 +128,14 @@ impl Book {
         }
     }
 
+    /// The number of the receipt that has this key; `None` if none has it.
+    pub(crate) fn number_of(&self, key: &ReceiptKey) -> Option<ReceiptNumber>
+        ensures { (entries : List Entry) → IsBookOf self.now entries → MatchOption result
+            ((number : ℕ) → HasKey entries key.now number → ⊥) (λ number. HasKey entries key.now number) }
+    {
+        number_with(&self.keys, key)
+    }
+
     /// Whether an entry may come after those that this is the book of.
     pub(crate) fn may_follow(&self, entry: &Entry) -> bool
         ensures { (entries : List Entry) → IsBookOf self.now entries → IsTrue result ↔ MayFollow entries entry.now }
@@ -129,6 +146,7 @@ impl Book {
             Entry::Recorded { number } => matches!(self.tried(*number), Some(tried) if 0 < tried),
             Entry::Raised { next } => self.next <= *next,
             Entry::Cancelled { number } => self.tried(*number).is_some(),
+            Entry::Key { key } => self.number_of(key).is_none(),
         }
     }
 
@@ -155,13 +173,14 @@ impl Book {
         })
     }
 
-    /// Makes room for one more receipt.
+    /// Makes room for one more receipt, with a key.
     pub(crate) fn reserve(&mut self) -> Result<(), AllocError>
         ensures room { OnOk result (HasRoom self.new) }
         ensures same { (entries : List Entry) → IsBookOf self.old entries → IsBookOf self.new entries }
     {
         self.states.reserve(1)?;
-        self.contents.reserve(1)
+        self.contents.reserve(1)?;
+        self.keys.reserve(1)
     }
 
     /// Makes room for one more try.
@@ -205,15 +224,11 @@ impl Book {
         requires follows { (entries : List Entry) × IsBookOf self.old entries × IsLedger entries × MayFollow entries entry × (length entries < 2 ^ 63) }
         requires room { (content : Content) → entry ≡ entry_kind.Queued content → HasRoom self.old }
         requires try_room { (number next : ℕ) → entry ≡ entry_kind.Tried number next → HasTryRoom self.old }
-        ensures { Notes self.old entry self.new }
+        ensures notes { Notes self.old entry self.new }
+        ensures room { NeedsNoRoom entry → HasRoom self.old → HasRoom self.new }
     {
         match entry {
-            Entry::Queued { content } => {
-                self.states
-                    .push_reserved(ReceiptState::Waiting { tried: 0 });
-                self.contents.push_reserved(content);
-                self.count += 1;
-            }
+            Entry::Queued { content } => self.note_queued(content),
             Entry::Tried { number, next } => {
                 let place = number.get() - 1;
                 self.states[place] = one_try_more(self.states[place]);
@@ -222,14 +237,36 @@ impl Book {
                     closing: next - 1,
                 });
                 self.next = next;
+                self.last_key = None;
                 self.count += 1;
             }
             Entry::Recorded { number } => self.note_recorded(number),
             Entry::Raised { next } => {
                 self.next = next;
+                self.last_key = None;
                 self.count += 1;
             }
             Entry::Cancelled { number } => self.note_cancelled(number),
+            Entry::Key { key } => {
+                self.last_key = Some(key);
+                self.count += 1;
+            }
+        }
+    }
+
+    // Takes into account that a receipt is taken, with the key that the entry before said, if it said one.
+    fn note_queued(&mut self, content: Content)
+        requires follows { (entries : List Entry) × IsBookOf self.old entries × IsLedger entries × (length entries < 2 ^ 63) }
+        requires room { HasRoom self.old }
+        ensures { Notes self.old (entry_kind.Queued content) self.new }
+    {
+        self.states
+            .push_reserved(ReceiptState::Waiting { tried: 0 });
+        self.contents.push_reserved(content);
+        self.count += 1;
+        if let Some(key) = self.last_key.take() {
+            let number = self.last_number();
+            self.keys.push_reserved(Keyed { key, number });
         }
     }
 
@@ -245,6 +282,7 @@ impl Book {
         self.contents[place] = Content::new(Vec::new(*self.contents.allocator()));
         self.recorded += 1;
         self.first_waiting = first_waiting_from(&self.states, self.first_waiting);
+        self.last_key = None;
         self.count += 1;
     }
 
@@ -257,6 +295,7 @@ impl Book {
         self.states[place] = once_cancelled(self.states[place]);
         self.contents[place] = Content::new(Vec::new(*self.contents.allocator()));
         self.first_waiting = first_waiting_from(&self.states, self.first_waiting);
+        self.last_key = None;
         self.count += 1;
     }
 }

@@ -7,6 +7,7 @@ ghost use Rattle.escpos_till.specs.declared.entry.Content.{Content};
 ghost use Rattle.escpos_till.specs.declared.entry.Entry.{Entry};
 ghost use Rattle.escpos_till.specs.Contents.{content_with, plain};
 
+use crate::key::ReceiptKey;
 use crate::number::ReceiptNumber;
 use escpos_receipt::ReceiptOptions;
 use std::alloc::{AllocError, Global};
@@ -123,6 +124,8 @@ pub enum Entry {
     Raised { next: u32 },
     /// The receipt is cancelled: it waits no more, and isn't sent again.
     Cancelled { number: ReceiptNumber },
+    /// The receipt that the next entry takes comes with this key. If the next entry takes none, the key is void.
+    Key { key: ReceiptKey },
 }
 
 impl Entry {
@@ -142,6 +145,7 @@ impl Entry {
             (Entry::Recorded { number }, Entry::Recorded { number: other }) => number == other,
             (Entry::Raised { next }, Entry::Raised { next: other }) => next == other,
             (Entry::Cancelled { number }, Entry::Cancelled { number: other }) => number == other,
+            (Entry::Key { key }, Entry::Key { key: other }) => key.is_same(other),
             _ => false,
         }
     }
@@ -161,6 +165,7 @@ impl Entry {
             Entry::Recorded { number } => Ok(Entry::Recorded { number: *number }),
             Entry::Raised { next } => Ok(Entry::Raised { next: *next }),
             Entry::Cancelled { number } => Ok(Entry::Cancelled { number: *number }),
+            Entry::Key { key } => Ok(Entry::Key { key: key.copy() }),
         }
     }
 }

@@ -26,7 +26,10 @@ fn is_others(entry: &Entry) -> bool
     ensures { IsTrue result ↔ IsOthers entry.now }
 {
     match entry {
-        Entry::Queued { .. } | Entry::Raised { .. } | Entry::Cancelled { .. } => true,
+        Entry::Queued { .. }
+        | Entry::Raised { .. }
+        | Entry::Cancelled { .. }
+        | Entry::Key { .. } => true,
         Entry::Tried { .. } | Entry::Recorded { .. } => false,
     }
 }
@@ -157,7 +160,7 @@ pub(crate) fn revised(book: &Book, host: &mut Host, then: Then) -> Stage
     match then {
         Then::Send(due) => tried_now(book, host, due),
         Then::Recorded(number) => recorded_now(book, host, number),
-        Then::Queued | Then::Raised | Then::Cancelled { .. } => unreachable!(),
+        Then::Queued | Then::Take(_) | Then::Raised | Then::Cancelled { .. } => unreachable!(),
     }
 }
 

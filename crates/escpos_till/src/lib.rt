@@ -1,6 +1,6 @@
 //! A till with one printer: its ledger, and the machine that says what is to be done for it.
 //!
-//! `entry`, `state` and `waiting` have what a ledger says, `book` what a machine knows of it, and `store` where its entries are
+//! `entry`, `key`, `state` and `waiting` have what a ledger says, `book` what a machine knows of it, and `store` where its entries are
 //! kept. `machine` is the till itself, over values alone, `talking` what it does with a printer on a link, and `learning` what it does with entries that others have added; `driver` does what it asks for, over the store and the line of
 //! `surroundings`.
 #![tactic(auto)]
@@ -9,6 +9,9 @@ mod book;
 mod copy;
 mod driver;
 mod entry;
+mod key;
+mod keyed;
+pub mod laws;
 mod learning;
 mod machine;
 mod memory_store;
@@ -25,6 +28,8 @@ mod waiting;
 pub use copy::{COPY_CHARACTERS, CopyText};
 pub use driver::{drive, drive_within};
 pub use entry::{Content, Entry, Text};
+pub use key::{KEY_CHARACTERS, ReceiptKey};
+pub use keyed::Keyed;
 pub use learning::others_since;
 pub use machine::{Action, Due, NoMachine, Stage, Talk, Then, TillMachine, TillNote, TillRefusal};
 pub use memory_store::{Failure, MemoryStore, copies};

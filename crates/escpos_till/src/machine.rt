@@ -5,10 +5,10 @@
 //! has the host of the link that it talks over. Whatever crashes, a new machine is made from the entries that are left.
 //!
 //!   Stage      | It asks for                | It is told           | Next
-//!   AtRest     | nothing                    | queue, raise, cancel | Keeping an entry
+//!   AtRest     | nothing                    | queue, raise, cancel | Keeping an entry; Telling, if a receipt's key is known
 //!              |                            | deliver              | Connecting
 //!   Connecting | a link to the printer      | connected, or not    | Keeping that it is tried; Telling
-//!   Keeping    | an entry to be kept        | appended             | Telling; Talking; HangingUp
+//!   Keeping    | an entry to be kept        | appended             | Keeping the entry after it; Telling; Talking; HangingUp
 //!   Talking    | its owner to be told that  | told                 | Talking
 //!              | the printer pauses; bytes  | take_out             | Talking
 //!              | to be put, while there are | came                 | Talking; Keeping that it is recorded; HangingUp
@@ -20,7 +20,7 @@
 //! Before a byte of a receipt goes out, an entry is kept that says that it is tried, with the mark numbers that its link may
 //! use; and a receipt is recorded only where the host has recorded it. `specs/Machine.antt` says what each call does.
 
-ghost use Rattle.std.specs.Prelude.{◌≡◌, ◌≢◌, ◌↔◌, ◌-◌, ◌++◌, ◌<◌, ◌≤◌, ◌^◌, ℕ, List, length, take, drop, min, option_map, Ok, IfOk, IfErr, OnOk, IsErrOf, IsTrue};
+ghost use Rattle.std.specs.Prelude.{◌≡◌, ◌≢◌, ◌↔◌, ◌-◌, ◌++◌, ◌<◌, ◌≤◌, ◌^◌, ℕ, List, length, take, drop, min, option_map, Ok, IfOk, IfErr, MatchOption, OnOk, IsErrOf, IsTrue};
 ghost use Rattle.escpos_till.specs.declared.entry.Entry.{Entry};
 ghost use Rattle.escpos_till.specs.Entries.{IsLedger, states as states_of};
 ghost use Rattle.escpos_till.specs.Book.{IsBookOf, Notes};
@@ -28,11 +28,12 @@ ghost use Rattle.escpos_host.specs.Machine.{IsSound};
 ghost use Rattle.escpos_till.specs.Delivers.{fresh, marks_taken};
 ghost use Rattle.escpos_till.specs.Learning.{FailsToLearn, IfKeeping, Learned, LearnsAll};
 ghost use Rattle.escpos_till.specs.declared.machine.Talk.{Talk};
-ghost use Rattle.escpos_till.specs.Machine.{Asks, AsksIn, Came, Cancels, Delivers, Ended, EndsFinally, Fits, Follows, IsNext, IsPausing, IsStarted, Kept, MayTry, Queues, Raises, RefusesAny, RefusesCancel, RefusesDeliver, RefusesRaise, Rests, SameEntries, SendsReceipt, Unsure, connected, ended_by, first_talk, hung_up, lost, news_of, not_connected, put, told};
+ghost use Rattle.escpos_till.specs.Machine.{Asks, AsksIn, Came, Cancels, Delivers, Ended, EndsFinally, Fits, Follows, IsKnown, IsNew, IsNext, IsPausing, IsStarted, Kept, MayTry, Queues, Raises, RefusesAny, RefusesCancel, RefusesDeliver, RefusesRaise, Rests, SameEntries, SendsReceipt, Unsure, connected, ended_by, first_talk, hung_up, lost, news_of, not_connected, put, taking, told};
 
 use crate::book::{Book, MOST_ENTRIES, NoBook};
 use crate::copy::CopyText;
-use crate::entry::Entry;
+use crate::entry::{Content, Entry};
+use crate::key::ReceiptKey;
 use crate::learning::{learn, revised};
 use crate::number::ReceiptNumber;
 use crate::pause::{Pause, Paused};
@@ -59,7 +60,7 @@ const _: () = prove!(LAST_FIRST == 1_679_614);
 /// What a machine tells its owner.
 #[derive(Clone, Copy, Debug, PartialEq, Eq)]
 pub enum TillNote {
-    /// The receipt is taken, and has this number.
+    /// The receipt is taken, and has this number. If it came with a key that a receipt has, it is that receipt.
     Queued(ReceiptNumber),
     /// The next mark number is raised.
     Raised,
@@ -186,6 +187,8 @@ pub struct Talk {
 pub enum Then {
     /// A receipt is taken.
     Queued,
+    /// A receipt with this content is to be taken: its entry is kept next.
+    Take(Content),
     /// The next mark number is raised.
     Raised,
     /// A receipt is cancelled that was tried so often.
@@ -345,25 +348,41 @@ impl TillMachine {
         matches!(self.stage, Stage::Talking(_))
     }
 
-    /// Takes a receipt: it is to be kept. The errors are `Busy`, `Failed` and `Memory`, and return the receipt.
-    pub fn queue(&mut self, receipt: ReceiptContent) -> Result<(), (TillRefusal, ReceiptContent)>
-        ensures queues { OnOk result (Queues self.old receipt self.new) }
+    /// Takes a receipt: it is to be kept. If it comes with a key, that is to be kept before it; but if the ledger has a receipt with
+    /// this key, that is the one, whatever became of it: its number is told, and nothing is to be kept. What the two say isn't compared.
+    ///
+    /// The errors are `Busy`, `Failed` and `Memory`, and return the receipt.
+    pub fn queue(
+        &mut self,
+        receipt: ReceiptContent,
+        key: Option<ReceiptKey>,
+    ) -> Result<(), (TillRefusal, ReceiptContent)>
+        ensures queues { OnOk result (Queues self.old receipt key self.new) }
         ensures refused { IfErr result (λ refusal. RefusesAny self.old refusal.0 × SameEntries self.old self.new) }
         ensures returned { IfErr result (λ refusal. refusal.1 ≡ receipt) }
     {
         if let Err(why) = self.check_rest() {
             return Err((why, receipt));
         }
-        if self.book.count >= MOST_ENTRIES || self.book.reserve().is_err() {
+        if let Some(number) = self.known(&key) {
+            self.stage = Stage::Telling(TillNote::Queued(number));
+            return Ok(());
+        }
+        if self.book.count >= MOST_ENTRIES - 1 || self.book.reserve().is_err() {
             return Err((TillRefusal::Memory, receipt));
         }
-        self.stage = Stage::Keeping {
-            entry: Entry::Queued {
-                content: receipt.into_content(),
-            },
-            then: Then::Queued,
-        };
+        self.stage = taking(&self.book, key, receipt.into_content());
         Ok(())
+    }
+
+    // The number of the receipt that has this key, if there is a key, and a receipt that has it.
+    fn known(&self, key: &Option<ReceiptKey>) -> Option<ReceiptNumber>
+        ensures { MatchOption result (IsNew self.now.book key.now) (λ number. IsKnown self.now.book key.now number) }
+    {
+        match key {
+            Some(key) => self.book.number_of(key),
+            None => None,
+        }
     }
 
     /// Raises the next mark number to this one, since those below it were used elsewhere: that is to be kept.
@@ -663,12 +682,32 @@ impl TillMachine {
     }
 }
 
+// What is to be kept first of a receipt with this content, which comes with this key or with none.
+fn taking(book: &Book, key: Option<ReceiptKey>, content: Content) -> Stage
+    ensures { result ≡ taking key book.now.last_key book.now.next content }
+{
+    let entry = match key {
+        Some(key) => Entry::Key { key },
+        None if book.last_key.is_some() => Entry::Raised { next: book.next },
+        None => {
+            return Stage::Keeping {
+                entry: Entry::Queued { content },
+                then: Then::Queued,
+            };
+        }
+    };
+    Stage::Keeping {
+        entry,
+        then: Then::Take(content),
+    }
+}
+
 // What follows where the store couldn't tell whether it kept an entry. A link is given up first.
 fn lost(then: Then, why: StoreFault) -> Stage
     ensures { result ≡ lost then why }
 {
     match then {
-        Then::Queued | Then::Raised | Then::Cancelled { .. } => {
+        Then::Queued | Then::Take(_) | Then::Raised | Then::Cancelled { .. } => {
             Stage::Telling(TillNote::NotKept(why))
         }
         Then::Send(_) | Then::Recorded(_) => Stage::HangingUp(TillNote::NotKept(why)),
@@ -682,6 +721,10 @@ fn following(alloc: Global, book: &Book, host: &mut Host, first: u32, then: Then
 {
     match then {
         Then::Queued => Stage::Telling(TillNote::Queued(book.last_number())),
+        Then::Take(content) => Stage::Keeping {
+            entry: Entry::Queued { content },
+            then: Then::Queued,
+        },
         Then::Raised => Stage::Telling(TillNote::Raised),
         Then::Cancelled { number, tried } => Stage::Telling(TillNote::Cancelled { number, tried }),
         Then::Send(due) => {

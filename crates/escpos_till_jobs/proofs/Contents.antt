@@ -6,7 +6,7 @@ use Rattle.std.proofs.lemmas.List.Elements.{filter_map-append}
 use Rattle.std.proofs.lemmas.Option.{same_Some}
 use Rattle.escpos_till.specs.declared.entry.Content.{Content}
 use Rattle.escpos_till.specs.declared.entry.Entry.{Entry}
-use Rattle.escpos_till.specs.declared.entry.Entry.TheVariants.{Queued, Tried, Recorded, Raised, Cancelled}
+use Rattle.escpos_till.specs.declared.entry.Entry.TheVariants.{Queued, Tried, Recorded, Raised, Cancelled, Key}
 use Rattle.escpos_till.specs.Entries.{content_of, contents}
 
 -- A content stands at the place that as many have as stand before its entry.
@@ -18,6 +18,7 @@ at_place (Tried number next ∷ es) (suc i) content is = at_place es i content i
 at_place (Recorded number ∷ es) (suc i) content is = at_place es i content is
 at_place (Raised next ∷ es) (suc i) content is = at_place es i content is
 at_place (Cancelled number ∷ es) (suc i) content is = at_place es i content is
+at_place (Key key ∷ es) (suc i) content is = at_place es i content is
 
 -- One entry more has its own contents.
 pub one_entry_more : (es : List Entry) (i : ℕ) (e : Entry) → i < length es → e ≡ get_or es i e → length (contents (take (i + 1) es)) ≡ length (contents (take i es)) + length (contents (e ∷ []))
@@ -33,6 +34,7 @@ no_content (Tried number next) none = refl
 no_content (Recorded number) none = refl
 no_content (Raised next) none = refl
 no_content (Cancelled number) none = refl
+no_content (Key key) none = refl
 
 pub is_queued : (e : Entry) (content : Content) → content_of e ≡ Some content → e ≡ Queued content
 is_queued (Queued other) content is = ap Queued (same_Some other content is)
@@ -40,6 +42,7 @@ is_queued (Tried number next) content is = absurd cc
 is_queued (Recorded number) content is = absurd cc
 is_queued (Raised next) content is = absurd cc
 is_queued (Cancelled number) content is = absurd cc
+is_queued (Key key) content is = absurd cc
 
 pub one_content : (e : Entry) (content : Content) → content_of e ≡ Some content → length (contents (e ∷ [])) ≡ 1
 one_content e content is = ap (λ (x : Entry). length (contents (x ∷ []))) (is_queued e content is)

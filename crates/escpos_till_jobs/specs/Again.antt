@@ -1,5 +1,5 @@
 -- What `queue --again` does: a receipt that was taken is taken once more.
-use Rattle.std.specs.Prelude.{ℕ, ◌≡◌, ◌⊎◌, ◌-◌, ◌<◌, Some, List, [], codes, length, slice_get}
+use Rattle.std.specs.Prelude.{ℕ, ◌≡◌, ◌⊎◌, ◌-◌, ◌<◌, None, Some, List, [], codes, length, slice_get}
 use Rattle.escpos_jobs.specs.declared.status.Status.TheVariants.{Memory, Refused}
 use Rattle.escpos_jobs.specs.Ending.{JobEnd, PrintsText, Tells, memory_line}
 use Rattle.escpos_jobs.specs.Refusal.{refusal_line}
@@ -57,7 +57,7 @@ pub record Misreads {S L : Type 0} (faithful : S → Type 0) (holds leaves : S �
 -- The content of the receipt is taken, as by `queue`; or there is none, the line says why, and nothing is kept.
 abbrev pub TakesAgain : {D : Type 0} → (D → Deed → D → Type 0) → List Entry → ℕ → MachineView → D → MachineView → D → JobEnd → Type 0
 TakesAgain did entries number m old after new o =
-    ((content : Content) × HasContent entries number content × GivesReceipt content × BecomesAndTells did (RefusesAny m) m old (Queue content) after new o)
+    ((content : Content) × HasContent entries number content × GivesReceipt content × BecomesAndTells did (RefusesAny m) m old (Queue content None) after new o)
     ⊎ ((none : NotAgain) × HasNone none entries number × RefusesAgain none number o × (after ≡ m) × (new ≡ old))
 
 -- The entries are read from the store, and the receipt is taken once more; or they can't be read, and the line says why.

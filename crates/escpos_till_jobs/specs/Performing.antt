@@ -43,11 +43,11 @@ RefusesFor (none.Text json.Memory) options came failed before end status = Print
 
 -- ## At a path
 
--- A receipt is read, and taken into the ledger at the path; or it is refused, and no ledger is opened.
-abbrev pub QueuesAt : {F S L : Type 0} → Place F S → (L → Deed → L → Type 0) → Option (List ℕ) → Bool → F → Output → F → Output → Status → List ℕ → ReceiptOptions → Type 0
-QueuesAt {F} {S} {L} p did came failed ledgers before after end status path options =
+-- A receipt is read, and taken into the ledger at the path, with the key that it comes with; or it is refused, and no ledger is opened.
+abbrev pub QueuesAt : {F S L : Type 0} → Place F S → (L → Deed → L → Type 0) → Option (List ℕ) → Bool → F → Output → F → Output → Status → List ℕ → ReceiptOptions → Option (List ℕ) → Type 0
+QueuesAt {F} {S} {L} p did came failed ledgers before after end status path options key =
     ((fault : NoReceipt) × (after ≡ ledgers) × RefusesFor fault options came failed before end status)
-    ⊎ ((content : Content) × Reads options came content × (line new : L) × InLedger p did path (word.Queue content) ledgers line before after new end status)
+    ⊎ ((content : Content) × Reads options came content × (line new : L) × InLedger p did path (word.Queue content key) ledgers line before after new end status)
 
 -- The receipt with this number is taken once more into the ledger at the path.
 abbrev pub QueuesAgainAt : {F S L : Type 0} → Place F S → (L → Deed → L → Type 0) → F → Output → F → Output → Status → List ℕ → ℕ → Type 0
@@ -75,12 +75,12 @@ ListsAt {F} {S} {L} p did ledgers before after end status path first = (line new
 -- ## By the task
 
 -- This holds of a task of that kind.
-abbrev pub OfQueue : (List ℕ → ReceiptOptions → Type 0) → TillTask → Type 0
-OfQueue Holds (task.Queue path options) = Holds path options
+abbrev pub OfQueue : (List ℕ → ReceiptOptions → Option (List ℕ) → Type 0) → TillTask → Type 0
+OfQueue Holds (task.Queue path options key) = Holds path options key
 OfQueue Holds t = Unit {0}
 
-abbrev pub OfQueueRaw : (List ℕ → ℕ → Type 0) → TillTask → Type 0
-OfQueueRaw Holds (task.QueueRaw path width) = Holds path width
+abbrev pub OfQueueRaw : (List ℕ → ℕ → Option (List ℕ) → Type 0) → TillTask → Type 0
+OfQueueRaw Holds (task.QueueRaw path width key) = Holds path width key
 OfQueueRaw Holds t = Unit {0}
 
 abbrev pub OfQueueAgain : (List ℕ → ℕ → Type 0) → TillTask → Type 0
@@ -117,12 +117,12 @@ IfDeliver Holds t = Unit {0}
 
 -- This holds if the task is to take a receipt that is read.
 abbrev pub OfReading : Type 0 → TillTask → Type 0
-OfReading Holds (task.Queue path options) = Holds
-OfReading Holds (task.QueueRaw path width) = Holds
+OfReading Holds (task.Queue path options key) = Holds
+OfReading Holds (task.QueueRaw path width key) = Holds
 OfReading Holds t = Unit {0}
 
 -- This holds unless the task is to take a receipt that is read.
 abbrev pub UnlessReading : Type 0 → TillTask → Type 0
-UnlessReading Holds (task.Queue path options) = Unit {0}
-UnlessReading Holds (task.QueueRaw path width) = Unit {0}
+UnlessReading Holds (task.Queue path options key) = Unit {0}
+UnlessReading Holds (task.QueueRaw path width key) = Unit {0}
 UnlessReading Holds t = Holds

@@ -40,8 +40,8 @@ RefusesRaw (none.Stream (error.Refused why)) width came failed before end status
     IfSome came (λ bytes. (length bytes ≤ INPUT_LIMIT) × IsStreamFault width why bytes) × PrintsText (ended before end status) (stream_line why) Refused
 RefusesRaw (none.Stream error.Memory) width came failed before end status = PrintsText (ended before end status) memory_line Memory
 
--- A stream is read as a receipt, and taken into the ledger at the path; or it is refused, and no ledger is opened.
-abbrev pub QueuesRawAt : {F S L : Type 0} → Place F S → (L → Deed → L → Type 0) → Option (List ℕ) → Bool → F → Output → F → Output → Status → List ℕ → ℕ → Type 0
-QueuesRawAt {F} {S} {L} p did came failed ledgers before after end status path width =
+-- A stream is read as a receipt, and taken into the ledger at the path, with the key that it comes with; or it is refused, and no ledger is opened.
+abbrev pub QueuesRawAt : {F S L : Type 0} → Place F S → (L → Deed → L → Type 0) → Option (List ℕ) → Bool → F → Output → F → Output → Status → List ℕ → ℕ → Option (List ℕ) → Type 0
+QueuesRawAt {F} {S} {L} p did came failed ledgers before after end status path width key =
     ((fault : NoStream) × (after ≡ ledgers) × RefusesRaw fault width came failed before end status)
-    ⊎ ((content : Content) × ReadsRaw width came content × (line new : L) × InLedger p did path (word.Queue content) ledgers line before after new end status)
+    ⊎ ((content : Content) × ReadsRaw width came content × (line new : L) × InLedger p did path (word.Queue content key) ledgers line before after new end status)

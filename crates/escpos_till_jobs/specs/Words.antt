@@ -26,8 +26,8 @@ use Rattle.escpos_till_jobs.specs.Outputs.{Output, ended}
 -- A receipt is taken, or taken once more, the receipts that wait are delivered, one is cancelled, or all are listed.
 abbrev pub WordDoes : {S L : Type 0} → (S → Type 0) → (S → List Entry → Type 0) → (S → List Entry → Type 0) → (S → List Entry → StoreFault → S → Type 0) → (L → Deed → L → Type 0) → Word
     → MachineView → Surroundings S L → Output → MachineView → Surroundings S L → Output → Status → Type 0
-WordDoes faithful holds leaves says did (word.Queue content) m old before after new end status =
-    BecomesAndTells (Did faithful holds leaves says did) (RefusesAny m) m old (Queue content) after new (ended before end status)
+WordDoes faithful holds leaves says did (word.Queue content key) m old before after new end status =
+    BecomesAndTells (Did faithful holds leaves says did) (RefusesAny m) m old (Queue content key) after new (ended before end status)
 WordDoes faithful holds leaves says did (word.Again number) m old before after new end status = QueuesAgain faithful holds leaves says did number m old after new (ended before end status)
 WordDoes faithful holds leaves says did (word.Deliver delivery) m old before after new end status = DeliversAndTells (Did faithful holds leaves says did) delivery m old before after new end status
 WordDoes faithful holds leaves says did (word.Cancel number) m old before after new end status =

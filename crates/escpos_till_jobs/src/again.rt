@@ -29,6 +29,7 @@ pub enum NotAgain {
 }
 
 /// Takes a receipt once more that the ledger of the store has taken, whatever became of that, and prints `queued M`, with the number that it has now.
+/// It has no key then.
 ///
 /// The status and the line are those of `queue_receipt`; or the status is `Refused` with `refused NotTaken N` if no receipt has this number, and with the
 /// line of a refused text if what the ledger has of it gives no receipt. The entries are read from the store: if that fails, the line is `ledger failed`, with
@@ -47,7 +48,7 @@ pub fn queue_again<S: Store, L: PrinterLine, W: ByteOut>(
 {
     match around.store.entries(alloc) {
         Ok(entries) => match content_again(alloc, &entries, number) {
-            Ok(content) => queue_receipt(machine, around, content, output),
+            Ok(content) => queue_receipt(machine, around, content, None, output),
             Err(why) => refuse_again(why, number, output),
         },
         Err(fault) => tell(Outcome::Told(TillNote::NotKept(fault)), output),
@@ -119,6 +120,7 @@ fn content_of(entry: &Entry) -> Option<&Content>
         Entry::Tried { .. }
         | Entry::Recorded { .. }
         | Entry::Raised { .. }
-        | Entry::Cancelled { .. } => None,
+        | Entry::Cancelled { .. }
+        | Entry::Key { .. } => None,
     }
 }

@@ -87,28 +87,32 @@ pub fn perform_till<
     ensures never_usage { result ≢ Status.Usage }
 {
     match task {
-        TillTask::Queue { ledger, options } => match read_content(alloc, &options, input) {
+        TillTask::Queue {
+            ledger,
+            options,
+            key,
+        } => match read_content(alloc, &options, input) {
             Ok(content) => {
                 do_at(
                     alloc,
                     ledgers,
                     &ledger,
                     NoLine,
-                    Word::Queue(content),
+                    Word::Queue { content, key },
                     output,
                 )
                 .1
             }
             Err(fault) => refuse_input(fault, output),
         },
-        TillTask::QueueRaw { ledger, width } => match read_raw(alloc, width, input) {
+        TillTask::QueueRaw { ledger, width, key } => match read_raw(alloc, width, input) {
             Ok(content) => {
                 do_at(
                     alloc,
                     ledgers,
                     &ledger,
                     NoLine,
-                    Word::Queue(content),
+                    Word::Queue { content, key },
                     output,
                 )
                 .1

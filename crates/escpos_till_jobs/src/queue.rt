@@ -21,7 +21,7 @@ use escpos_jobs::input::INPUT_LIMIT;
 use escpos_jobs::receipt_input::NoReceipt;
 use escpos_jobs::status::Status;
 use escpos_receipt::ReceiptOptions;
-use escpos_till::{PrinterLine, ReceiptContent, Store, Surroundings, TillMachine};
+use escpos_till::{PrinterLine, ReceiptContent, ReceiptKey, Store, Surroundings, TillMachine};
 use std::alloc::Global;
 
 /// Reads `input` as a receipt's text in JSON, with these options. At most 16,777,217 bytes are pulled, in at most as many calls.
@@ -45,7 +45,8 @@ pub fn read_content<R: ByteIn>(
     Ok(ReceiptContent::read(alloc, options, text)?)
 }
 
-/// Takes a receipt, and prints `queued N`, with its number, once it would outlive a crash.
+/// Takes a receipt, and prints `queued N`, with its number, once it would outlive a crash. If it comes with a key that a receipt of the
+/// ledger has, it is that receipt: its number is printed, and nothing is kept.
 ///
 /// The status is `Good` if it is taken. Otherwise the one line says why it isn't known to be: `Device` with `ledger failed` if the store
 /// fails or has failed, or `Memory`. `Device` also comes where `output` has failed.
@@ -53,14 +54,15 @@ pub fn queue_receipt<S: Store, L: PrinterLine, W: ByteOut>(
     machine: &mut TillMachine,
     around: &mut Surroundings<S, L>,
     content: ReceiptContent,
+    key: Option<ReceiptKey>,
     output: &mut W,
 ) -> Status
-    ensures queues { BecomesAndTells (Did S.faithful S.holds S.leaves S.says L.did) (RefusesAny machine.old) machine.old around.old (Queue content) machine.new around.new
+    ensures queues { BecomesAndTells (Did S.faithful S.holds S.leaves S.says L.did) (RefusesAny machine.old) machine.old around.old (Queue content key) machine.new around.new
         (job_end (W.written output.old) (W.written output.new) (W.failed output.new) result) }
     ensures not_hidden { result ≢ Status.Device → ¬ IsTrue (W.failed output.old) → ¬ IsTrue (W.failed output.new) }
     ensures never_usage { result ≢ Status.Usage }
 {
-    let outcome = queued(machine, around, content);
+    let outcome = queued(machine, around, content, key);
     tell(outcome, output)
 }
 
@@ -69,10 +71,11 @@ fn queued<S: Store, L: PrinterLine>(
     machine: &mut TillMachine,
     around: &mut Surroundings<S, L>,
     content: ReceiptContent,
+    key: Option<ReceiptKey>,
 ) -> Outcome
-    ensures { Becomes (Did S.faithful S.holds S.leaves S.says L.did) (RefusesAny machine.old) machine.old around.old (Queue content) result machine.new around.new }
+    ensures { Becomes (Did S.faithful S.holds S.leaves S.says L.did) (RefusesAny machine.old) machine.old around.old (Queue content key) result machine.new around.new }
 {
-    match machine.queue(content) {
+    match machine.queue(content, key) {
         Ok(()) => follow(machine, around),
         Err((why, _content)) => Outcome::Refused(why),
     }

@@ -5,7 +5,7 @@ ghost use Rattle.std.specs.Prelude.{◌≡◌};
 use crate::deliver::Delivery;
 use escpos_command::LineWidth;
 use escpos_receipt::ReceiptOptions;
-use escpos_till::ReceiptNumber;
+use escpos_till::{ReceiptKey, ReceiptNumber};
 use std::marker::Model;
 
 /// The path of a ledger's file. The model is the list of its bytes.
@@ -41,15 +41,19 @@ impl<'a> LedgerPath<'a> {
 /// What a till asks for.
 #[derive(Debug, Drop)]
 pub enum TillTask<'a> {
-    /// Take a receipt into this ledger. Its text is read with these options.
+    /// Take a receipt into this ledger. Its text is read with these options. If it comes with a key that a receipt of the ledger has, it is
+    /// that receipt.
     Queue {
         ledger: LedgerPath<'a>,
         options: ReceiptOptions,
+        key: Option<ReceiptKey>,
     },
-    /// Take a stream of bytes, as another library makes it, into this ledger, as a receipt for lines of this width.
+    /// Take a stream of bytes, as another library makes it, into this ledger, as a receipt for lines of this width, which may come with a
+    /// key.
     QueueRaw {
         ledger: LedgerPath<'a>,
         width: LineWidth,
+        key: Option<ReceiptKey>,
     },
     /// Take the receipt of this ledger that has this number once more.
     QueueAgain {

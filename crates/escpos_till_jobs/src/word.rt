@@ -12,14 +12,19 @@ use crate::opening::{open_machine, refuse_store};
 use crate::queue::queue_receipt;
 use escpos_io::ByteOut;
 use escpos_jobs::status::Status;
-use escpos_till::{PrinterLine, ReceiptContent, ReceiptNumber, Store, Surroundings, TillMachine};
+use escpos_till::{
+    PrinterLine, ReceiptContent, ReceiptKey, ReceiptNumber, Store, Surroundings, TillMachine,
+};
 use std::alloc::Global;
 
 /// What is done with a ledger.
 #[derive(Drop)]
 pub enum Word<'a> {
-    /// A receipt is taken, as by `queue_receipt`.
-    Queue(ReceiptContent),
+    /// A receipt is taken, which may come with a key, as by `queue_receipt`.
+    Queue {
+        content: ReceiptContent,
+        key: Option<ReceiptKey>,
+    },
     /// The receipt with this number is taken once more, as by `queue_again`.
     Again(ReceiptNumber),
     /// The receipts that wait are delivered, as by `deliver_waiting`.
@@ -44,7 +49,7 @@ pub fn do_word<S: Store, L: PrinterLine, W: ByteOut>(
     ensures never_usage { result ≢ Status.Usage }
 {
     match word {
-        Word::Queue(content) => queue_receipt(machine, around, content, output),
+        Word::Queue { content, key } => queue_receipt(machine, around, content, key, output),
         Word::Again(number) => queue_again(alloc, machine, around, number, output),
         Word::Deliver(delivery) => deliver_waiting(machine, around, &delivery, output),
         Word::Cancel(number) => cancel_receipt(machine, around, number, output),

@@ -22,7 +22,7 @@ fn machine_queues(
 ) {
     let mut room = [0; 64];
     let mut output = MemoryOut::new(&mut room);
-    let status = queue_receipt(machine, around, receipt(rt, alloc), &mut output);
+    let status = queue_receipt(machine, around, receipt(rt, alloc), None, &mut output);
     is_told(rt, (output.written(), status), wanted);
 }
 

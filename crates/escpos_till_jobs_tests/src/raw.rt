@@ -91,7 +91,13 @@ fn sent_as_they_are(rt: HostRuntime) {
         let store = store_of(&rt, rt.alloc(), &[]);
         let content = read(&rt, rt.alloc(), stream);
         let queued = ("queued 1\n", Status::Good);
-        let store = does(&rt, rt.alloc(), store, Word::Queue(content), queued);
+        let store = does(
+            &rt,
+            rt.alloc(),
+            store,
+            Word::Queue { content, key: None },
+            queued,
+        );
         let queued = ("queued 2\n", Status::Good);
         let again = Word::Again(number(&rt, 1));
         let store = does(&rt, rt.alloc(), store, again, queued);

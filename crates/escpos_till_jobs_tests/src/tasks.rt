@@ -7,6 +7,7 @@ use escpos_command::LineWidth;
 use escpos_io::{MemoryIn, MemoryOut};
 use escpos_jobs::status::Status;
 use escpos_receipt::ReceiptOptions;
+use escpos_till::ReceiptKey;
 use escpos_till_jobs::{LedgerPath, TillTask};
 use std::alloc::Global;
 use std::process::Abort;
@@ -37,8 +38,25 @@ fn queues(
     let task = TillTask::Queue {
         ledger: LedgerPath::new(path),
         options: ReceiptOptions::usual(),
+        key: None,
     };
     performs(rt, alloc, ledger, (task, text), wanted);
+}
+
+// A receipt is taken into the ledger at the path, in JSON and as a stream, with the same key.
+fn queues_with_key(rt: &impl Abort, alloc: Global, ledger: &mut OneLedger, wanted: Told) {
+    let task = TillTask::Queue {
+        ledger: LedgerPath::new("a"),
+        options: ReceiptOptions::usual(),
+        key: ReceiptKey::new(b"sale-7"),
+    };
+    performs(rt, alloc, ledger, (task, S), wanted);
+    let task = TillTask::QueueRaw {
+        ledger: LedgerPath::new("a"),
+        width: LineWidth::usual(),
+        key: ReceiptKey::new(b"sale-7"),
+    };
+    performs(rt, alloc, ledger, (task, b"\x1b@Hi\n"), wanted);
 }
 
 // A stream of bytes is taken into the ledger at a path.
@@ -52,6 +70,7 @@ fn queues_raw(
     let task = TillTask::QueueRaw {
         ledger: LedgerPath::new(path),
         width: LineWidth::usual(),
+        key: None,
     };
     performs(rt, alloc, ledger, (task, stream), wanted);
 }
@@ -147,6 +166,26 @@ fn taken_as_a_stream(rt: HostRuntime) {
     let queued = ("queued 1\n", Status::Good);
     queues_raw(&rt, rt.alloc(), &mut ledger, ("a", stream), queued);
     let listed = ("1 waiting\nnext 0\n", Status::Good);
+    lists(&rt, rt.alloc(), &mut ledger, "a", listed);
+}
+
+// A stream that comes with the key of a receipt in JSON is that receipt. A copy of it has no key.
+#[test]
+fn taken_with_a_key(rt: HostRuntime) {
+    let mut ledger = OneLedger {
+        path: "a",
+        store: Some(store_of(&rt, rt.alloc(), &[])),
+    };
+    queues_with_key(&rt, rt.alloc(), &mut ledger, ("queued 1\n", Status::Good));
+    takes_again(
+        &rt,
+        rt.alloc(),
+        &mut ledger,
+        "a",
+        ("queued 2\n", Status::Good),
+    );
+    queues_with_key(&rt, rt.alloc(), &mut ledger, ("queued 1\n", Status::Good));
+    let listed = ("1 waiting\n2 waiting\nnext 0\n", Status::Good);
     lists(&rt, rt.alloc(), &mut ledger, "a", listed);
 }
 

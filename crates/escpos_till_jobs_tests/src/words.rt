@@ -13,7 +13,7 @@ use escpos_jobs::receipt_input::refuse_input;
 use escpos_jobs::status::Status;
 use escpos_receipt::ReceiptOptions;
 use escpos_text::Replacement;
-use escpos_till::{CopyText, Entry, Failure, MemoryStore, NoStore};
+use escpos_till::{CopyText, Entry, Failure, MemoryStore, NoStore, ReceiptKey};
 use escpos_till_jobs::{
     AtAddress, Delivery, LinkLine, NoLine, Waits, Word, read_content, refuse_store,
 };
@@ -36,7 +36,10 @@ fn queues_so(
     let mut room = [0; 64];
     let mut output = MemoryOut::new(&mut room);
     let (store, status) = match read_content(alloc, options, &mut MemoryIn::new(text, 7)) {
-        Ok(content) => done_with(alloc, (store, NoLine), Word::Queue(content), &mut output),
+        Ok(content) => {
+            let word = Word::Queue { content, key: None };
+            done_with(alloc, (store, NoLine), word, &mut output)
+        }
         Err(fault) => (store, refuse_input(fault, &mut output)),
     };
     is_told(rt, (output.written(), status), wanted);
@@ -78,6 +81,62 @@ fn queued_and_listed(rt: HostRuntime) {
     let store = queues(&rt, rt.alloc(), store, A, ("queued 2\n", Status::Good));
     let listed = ("1 waiting\n2 waiting\nnext 0\n", Status::Good);
     let _store = lists(&rt, rt.alloc(), store, None, listed);
+}
+
+// A receipt is taken with this key, or a receipt of the store has it.
+fn queues_with(
+    rt: &impl Abort,
+    alloc: Global,
+    store: MemoryStore,
+    (text, key): (&[u8], &[u8]),
+    wanted: Told,
+) -> MemoryStore {
+    let mut room = [0; 64];
+    let mut output = MemoryOut::new(&mut room);
+    let usual = ReceiptOptions::usual();
+    let content = match read_content(alloc, &usual, &mut MemoryIn::new(text, 7)) {
+        Ok(content) => content,
+        Err(_) => panic!(rt; "no receipt"),
+    };
+    let key = Some(ReceiptKey::new(key).expect(rt, "a key"));
+    let word = Word::Queue { content, key };
+    let (store, status) = done_with(alloc, (store, NoLine), word, &mut output);
+    is_told(rt, (output.written(), status), wanted);
+    store
+}
+
+// A key that is known has its receipt's number printed, and adds nothing.
+#[test]
+fn queued_with_keys(rt: HostRuntime) {
+    let (first, second) = (("queued 1\n", Status::Good), ("queued 2\n", Status::Good));
+    let mut store = new_store(rt.alloc());
+    for (text, key, told) in [
+        (S, b"sale-7".as_slice(), first),
+        (S, b"sale-7", first),
+        (A, b"sale-7", first),
+        (S, b"sale-8", second),
+        (S, b"sale-7", first),
+    ] {
+        store = queues_with(&rt, rt.alloc(), store, (text, key), told);
+    }
+    let store = queues(&rt, rt.alloc(), store, S, ("queued 3\n", Status::Good));
+    let listed = ("1 waiting\n2 waiting\n3 waiting\nnext 0\n", Status::Good);
+    let store = lists(&rt, rt.alloc(), store, None, listed);
+    assert!(&rt; store.after_crash().len() == 5);
+}
+
+// A store that fails within a receipt with a key: the key is void, and may come again.
+#[test]
+fn queued_with_a_void_key(rt: HostRuntime) {
+    let failure = Failure::BeforeKeeping { calls: 1 };
+    let store = MemoryStore::new(rt.alloc(), Vec::new(rt.alloc()), failure);
+    let store = queues_with(&rt, rt.alloc(), store, (S, b"sale-7"), FAILED);
+    let store = MemoryStore::new(rt.alloc(), store.after_crash(), Failure::Never);
+    let store = lists(&rt, rt.alloc(), store, None, ("next 0\n", Status::Good));
+    let store = queues(&rt, rt.alloc(), store, A, ("queued 1\n", Status::Good));
+    let second = ("queued 2\n", Status::Good);
+    let store = queues_with(&rt, rt.alloc(), store, (S, b"sale-7"), second);
+    let _store = queues_with(&rt, rt.alloc(), store, (S, b"sale-7"), second);
 }
 
 // The first is recorded, the second tried.
@@ -402,7 +461,7 @@ fn failed_output(rt: HostRuntime) {
     let (store, status) = done_with(
         rt.alloc(),
         (new_store(rt.alloc()), NoLine),
-        Word::Queue(content),
+        Word::Queue { content, key: None },
         &mut output,
     );
     assert!(&rt; status == Status::Device);

@@ -7,7 +7,7 @@ use Rattle.std.proofs.lemmas.List.Sums.{sum_by-append}
 use Rattle.std.proofs.lemmas.Option.{same_Some}
 use Rattle.escpos_till.specs.declared.entry.Content.{Content}
 use Rattle.escpos_till.specs.declared.entry.Entry.{Entry}
-use Rattle.escpos_till.specs.declared.entry.Entry.TheVariants.{Queued, Tried, Recorded, Raised, Cancelled}
+use Rattle.escpos_till.specs.declared.entry.Entry.TheVariants.{Queued, Tried, Recorded, Raised, Cancelled, Key}
 use Rattle.escpos_till.specs.Entries.{IsLedger, MayFollow, Taken, Waits, cancel_of, cancel_place_of, cancelled, contents, is_open, is_try_of, numbered_from, place_in, place_of, record_of, recorded, taken, times_tried, waiting}
 use Rattle.escpos_till.proofs.EntryLemmas.{length-taken}
 use Rattle.escpos_till_model.specs.Receipts.{Among, EachIsKept, IsAbout, IsEndOf, IsTaken}
@@ -92,6 +92,7 @@ records_it (Tried n next) number is = absurd (let bad : None ≡ Some number = i
 records_it (Recorded n) number is = ap Recorded (same_Some n number is)
 records_it (Raised next) number is = absurd (let bad : None ≡ Some number = is in cc)
 records_it (Cancelled n) number is = absurd (let bad : None ≡ Some number = is in cc)
+records_it (Key key) number is = absurd (let bad : None ≡ Some number = is in cc)
 
 cancels_it : (e : Entry) (number : ℕ) → cancel_of e ≡ Some number → e ≡ Cancelled number
 cancels_it (Queued content) number is = absurd (let bad : None ≡ Some number = is in cc)
@@ -99,6 +100,7 @@ cancels_it (Tried n next) number is = absurd (let bad : None ≡ Some number = i
 cancels_it (Recorded n) number is = absurd (let bad : None ≡ Some number = is in cc)
 cancels_it (Raised next) number is = absurd (let bad : None ≡ Some number = is in cc)
 cancels_it (Cancelled n) number is = ap Cancelled (same_Some n number is)
+cancels_it (Key key) number is = absurd (let bad : None ≡ Some number = is in cc)
 
 -- What is recorded waited before, and so did what is cancelled.
 waited : (entries pre post : List Entry) (e : Entry) (number : ℕ) → IsLedger entries → entries ≡ pre ++ e ∷ post → record_of e ≡ Some number → Waits pre number
@@ -117,6 +119,7 @@ waits_at before (Tried n next) number follows about = subst (Waits before) about
 waits_at before (Recorded n) number follows about = subst (Waits before) about follows.0
 waits_at before (Raised next) number follows about = absurd about
 waits_at before (Cancelled n) number follows about = subst (Waits before) about follows
+waits_at before (Key key) number follows about = absurd about
 
 -- It waits no more after its end.
 pub ended_there : (before more : List Entry) (end : Entry) (number : ℕ) → IsEndOf number end → ¬ Waits (before ++ end ∷ more) number
@@ -126,6 +129,7 @@ ended_there before more (Recorded n) number ends waits =
     no_place (recorded (before ++ Recorded n ∷ more)) number waits.open_still
     (subst (λ k. Among k (recorded (before ++ Recorded n ∷ more))) ends (recorded before, recorded more, recorded_append before (Recorded n ∷ more)))
 ended_there before more (Raised next) number ends waits = absurd ends
+ended_there before more (Key key) number ends waits = absurd ends
 ended_there before more (Cancelled n) number ends waits =
     no_place (cancelled (before ++ Cancelled n ∷ more)) number waits.not_cancelled
     (subst (λ k. Among k (cancelled (before ++ Cancelled n ∷ more))) ends (cancelled before, cancelled more, cancelled_append before (Cancelled n ∷ more)))
@@ -161,6 +165,7 @@ times_stay entries (Tried n next) number follows among = same_times entries (Tri
 times_stay entries (Recorded n) number follows among = same_times entries (Recorded n) number refl
 times_stay entries (Raised next) number follows among = same_times entries (Raised next) number refl
 times_stay entries (Cancelled n) number follows among = same_times entries (Cancelled n) number refl
+times_stay entries (Key key) number follows among = same_times entries (Key key) number refl
 
 -- ## Receipts with their numbers
 

@@ -84,7 +84,7 @@ Stays e = Unit {0}
 
 stays_so : (number : ℕ) (kept : List Entry) (now new : World) (e : Happening) → Stays e → IsRecording number kept now → Happens now e new → IsRecording number kept new
 stays_so number kept now new event.Start stays r h = absurd (let bad : None ≡ Some r.m = sym h.off ∙ r.is in cc)
-stays_so number kept now new (event.Queue content) stays r h =
+stays_so number kept now new (event.Queue content key) stays r h =
     absurd (let bad : stage.AtRest ≡ recording number = sym h.goes.rest ∙ stands_so number kept now h.m h.was r in cc)
 stays_so number kept now new (event.Raise first) stays r h =
     absurd (let bad : stage.AtRest ≡ recording number = sym h.goes.rest ∙ stands_so number kept now h.m h.was r in cc)
@@ -166,6 +166,9 @@ cancels_in number (entry.Cancelled n ∷ others) (is, each) among = elim (among_
       let (before, rest, all, split) = cancels_in number others each later in
       (entry.Cancelled n ∷ before, rest, (tt, all), ap (λ v. entry.Cancelled n ∷ v) split)
 ]
+cancels_in number (entry.Key key ∷ others) (is, each) among =
+    let (before, rest, all, split) = cancels_in number others each among in
+    (entry.Key key ∷ before, rest, (tt, all), ap (λ v. entry.Key key ∷ v) split)
 cancels_in number (entry.Tried n next ∷ others) (is, each) among = absurd is
 cancels_in number (entry.Recorded n ∷ others) (is, each) among = absurd is
 
@@ -238,7 +241,7 @@ goes laws number kept now new (event.Crash ∷ es) known r (mid, h, runs) kept_s
 goes laws number kept now new (event.FailWith why ∷ es) known r (mid, h, runs) kept_so = absurd (kept_so tt)
 goes laws number kept now new (event.FailWithout why ∷ es) known r (mid, h, runs) kept_so = absurd (kept_so tt)
 goes laws number kept now new (event.Start ∷ es) known r (mid, h, runs) kept_so = goes laws number kept mid new es (whatever laws now mid event.Start known h) (stays_so number kept now mid event.Start tt r h) runs kept_so
-goes laws number kept now new ((event.Queue content) ∷ es) known r (mid, h, runs) kept_so = goes laws number kept mid new es (whatever laws now mid (event.Queue content) known h) (stays_so number kept now mid (event.Queue content) tt r h) runs kept_so
+goes laws number kept now new ((event.Queue content key) ∷ es) known r (mid, h, runs) kept_so = goes laws number kept mid new es (whatever laws now mid (event.Queue content key) known h) (stays_so number kept now mid (event.Queue content key) tt r h) runs kept_so
 goes laws number kept now new ((event.Raise first) ∷ es) known r (mid, h, runs) kept_so = goes laws number kept mid new es (whatever laws now mid (event.Raise first) known h) (stays_so number kept now mid (event.Raise first) tt r h) runs kept_so
 goes laws number kept now new ((event.Cancel other) ∷ es) known r (mid, h, runs) kept_so = goes laws number kept mid new es (whatever laws now mid (event.Cancel other) known h) (stays_so number kept now mid (event.Cancel other) tt r h) runs kept_so
 goes laws number kept now new ((event.Deliver openings most copy) ∷ es) known r (mid, h, runs) kept_so = goes laws number kept mid new es (whatever laws now mid (event.Deliver openings most copy) known h) (stays_so number kept now mid (event.Deliver openings most copy) tt r h) runs kept_so

@@ -39,13 +39,14 @@ use Rattle.escpos_till.specs.Book.{IsBookOf}
 use Rattle.escpos_till.specs.Entries.{MayFollow, next_free}
 use Rattle.escpos_till.specs.Learning.{FailsToLearn, FollowAll, Learned, LearnsAll, Revises}
 use Rattle.escpos_till.specs.Machine.{Came, Cancels, Delivers, Ended, Follows, GoesOn, HearsOne, Kept, MachineView, Queues, Raises, SameEntries, Submits, Turns as Turned, Unsure, after_note, connected, hung_up, lost, not_connected, put, told, with_pause}
-use Rattle.escpos_till.proofs.EntryLemmas.{next_after_cancelled, next_after_queued, next_after_raised, next_after_recorded, next_after_tried}
+use Rattle.escpos_till.proofs.EntryLemmas.{next_after_cancelled, next_after_key, next_after_queued, next_after_raised, next_after_recorded, next_after_tried}
 use Rattle.escpos_till_model.specs.declared.event.Happening.{Happening}
 use Rattle.escpos_till_model.specs.declared.event.Happening.TheVariants as event
 use Rattle.escpos_till_model.specs.Carried.{AreApart, Carried, Carries, HasOwnMarks, limit_of, link_at, link_by, link_of, links_after, numbers_from, out_of, with_put}
 use Rattle.escpos_till_model.specs.Known.{BookMayLag, Holds, IsMachineIn, IsToKeep, IsWorld}
 use Rattle.escpos_till_model.specs.Kept.{Hand}
 use Rattle.escpos_till_model.specs.World.{Learns, Breaks, FitsLine, Happens, Hears, IsSendable, Moves, Puts, Runs, Stores, TellsPause, World, with_entry, without_entry}
+use Rattle.escpos_till_model.proofs.Queueing.{queues_to}
 use Rattle.escpos_till_model.proofs.LinesKept.{LineLaws, down_or_up}
 use Rattle.escpos_till_model.proofs.Worlds.{whatever}
 
@@ -176,6 +177,7 @@ ended_so stage.Failed why m after is = inl is
 
 pub lost_quiet : (next : Then) (why : StoreFault) → IsQuiet (lost next why)
 lost_quiet then.Queued why = tt
+lost_quiet (then.Take content) why = tt
 lost_quiet then.Raised why = tt
 lost_quiet (then.Cancelled number tried) why = tt
 lost_quiet (then.Send due) why = tt
@@ -189,6 +191,7 @@ grows kept (entry.Tried number next) follows = omega (arith, next_after_tried ke
 grows kept (entry.Recorded number) follows = omega (arith, next_after_recorded kept number)
 grows kept (entry.Raised next) follows = omega (arith, next_after_raised kept next, follows)
 grows kept (entry.Cancelled number) follows = omega (arith, next_after_cancelled kept number)
+grows kept (entry.Key key) follows = omega (arith, next_after_key kept key)
 
 -- ## What goes on without a byte
 
@@ -208,6 +211,8 @@ pub kept_by : Ids → (next : Then) (low : ℕ) (links : List Carried) (kept : L
     → AreApart low (link_of next e (next_free kept) ++ links) (next_free (kept ++ e ∷ [])) × AllByRecursion HasOwnMarks (link_of next e (next_free kept) ++ links)
     × TalksOn after.stage after.host (link_of next e (next_free kept) ++ links)
 kept_by ids then.Queued low links kept hand h m after e first may keeps (number, is, host, at) apart own =
+    (apart_more low (next_free kept) (next_free (kept ++ e ∷ [])) links (grows kept e may) apart, own, quiet_on after.stage after.host links (subst IsQuiet (sym at) tt))
+kept_by ids (then.Take content) low links kept hand h m after e first may keeps (host, at) apart own =
     (apart_more low (next_free kept) (next_free (kept ++ e ∷ [])) links (grows kept e may) apart, own, quiet_on after.stage after.host links (subst IsQuiet (sym at) tt))
 kept_by ids then.Raised low links kept hand h m after e first may keeps (host, at) apart own =
     (apart_more low (next_free kept) (next_free (kept ++ e ∷ [])) links (grows kept e may) apart, own, quiet_on after.stage after.host links (subst IsQuiet (sym at) tt))
@@ -300,6 +305,7 @@ revised_quiet (then.Send due) b before h s (inr (inr (tried, cancelled, drops, a
 revised_quiet (then.Recorded number) b before h s (inl (waits, same, at)) = subst IsQuiet (sym at) tt
 revised_quiet (then.Recorded number) b before h s (inr (tried, cancelled, drops, at)) = subst IsQuiet (sym at) tt
 revised_quiet then.Queued b before h s none = absurd none
+revised_quiet (then.Take content) b before h s none = absurd none
 revised_quiet then.Raised b before h s none = absurd none
 revised_quiet (then.Cancelled number tried) b before h s none = absurd none
 
@@ -567,8 +573,8 @@ step_carried ids event.Start w new low links known starts c = record {
   own = c.own;
   talks = subst (λ k. MachineOn k.machine links) (sym starts.is) (quiet_on starts.m.stage starts.m.host links (subst IsQuiet (sym starts.started.stage) tt));
 }
-step_carried ids (event.Queue content) w new low links known moves c =
-    moved_on (λ m after. Queues m content after) w new w.told low links moves (λ m after queues. quietly links m after (subst IsQuiet (sym queues.keeps) tt)) c
+step_carried ids (event.Queue content key) w new low links known moves c =
+    moved_on (λ m after. Queues m content key after) w new w.told low links moves (λ m after queues. quietly links m after (queues_to IsQuiet (λ number. tt) (λ c. tt) (λ e c. tt) m content key after queues)) c
 step_carried ids (event.Raise first) w new low links known moves c =
     moved_on (λ m after. Raises m first after) w new w.told low links moves (λ m after raises. quietly links m after (subst (λ k. IsQuiet k.stage) (sym raises.after_is) tt)) c
 step_carried ids (event.Cancel number) w new low links known moves c =

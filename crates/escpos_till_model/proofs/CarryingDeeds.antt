@@ -10,7 +10,9 @@ use Rattle.escpos_host.specs.Earlier.{with_earlier}
 use Rattle.escpos_host.specs.Machine.{HostView}
 use Rattle.escpos_host.proofs.NoRealTime.{Ids}
 use Rattle.escpos_till.specs.declared.book.Book.{Book}
+use Rattle.escpos_till.specs.declared.entry.Content.{Content}
 use Rattle.escpos_till.specs.declared.entry.Entry.{Entry}
+use Rattle.escpos_till.specs.declared.entry.Entry.TheVariants as entry
 use Rattle.escpos_till.specs.declared.machine.Stage.{Stage}
 use Rattle.escpos_till.specs.declared.machine.Stage.TheVariants as stage
 use Rattle.escpos_till.specs.declared.machine.Talk.{Talk}
@@ -22,7 +24,7 @@ use Rattle.escpos_till.specs.Book.{IsBookOf}
 use Rattle.escpos_till.specs.Driver.{Breaks, Deed, DidAll, Ends, Gives, HangsUp, HearsAll, IsGiven, Keeps, Learns, Links, Loses, Misses, Pauses, Puts, Tells, Turns}
 use Rattle.escpos_till.specs.Entries.{next_free}
 use Rattle.escpos_till.specs.Learning.{FollowAll, Learned}
-use Rattle.escpos_till.specs.Machine.{Came, Ended, GoesOn, Kept, MachineView, Submits, Turns as Turned, Unsure, put, told, with_pause}
+use Rattle.escpos_till.specs.Machine.{Came, Ended, GoesOn, Kept, MachineView, Submits, Suits, Turns as Turned, Unsure, put, told, with_pause}
 use Rattle.escpos_till_model.specs.Around.{Around, Does, DoesInTime, HasNoLink, IsAround, around}
 use Rattle.escpos_till_model.specs.Carried.{AreApart, Carried, CarriesBy, HasOwnMarks, UsesMarksOnce, link_for, link_of, with_put}
 use Rattle.escpos_till_model.specs.Kept.{Hand}
@@ -108,8 +110,17 @@ given_on ids (b ∷ bs) talk m after links at fits talks (counts, hears) = all_h
 
 -- ## What is kept
 
+first_link : (kept : List Entry) (e : Entry) (content : Content) → Suits (then.Take content) e → link_for kept e ≡ []
+first_link kept (entry.Key key) content suits = refl
+first_link kept (entry.Raised next) content suits = refl
+first_link kept (entry.Queued c) content suits = absurd suits
+first_link kept (entry.Tried n next) content suits = absurd suits
+first_link kept (entry.Recorded n) content suits = absurd suits
+first_link kept (entry.Cancelled n) content suits = absurd suits
+
 same_link : (next : Then) (kept : List Entry) (hand : Option Hand) (h : HostView) (e : Entry) → IsToKeep kept hand h e next → link_for kept e ≡ link_of next e (next_free kept)
 same_link then.Queued kept hand h e (none, content, is) = ap (link_for kept) is
+same_link (then.Take content) kept hand h e (none, suits) = first_link kept e content suits
 same_link then.Raised kept hand h e (none, first, is) = ap (link_for kept) is
 same_link (then.Cancelled number tried) kept hand h e (none, is, times) = ap (link_for kept) is
 same_link (then.Send due) kept hand h e (none, sends, is) = ap (link_for kept) is ∙ sym (ap (λ x. link_of (then.Send due) x (next_free kept)) is)

@@ -17,6 +17,7 @@ use Rattle.escpos_link.specs.declared.event.Event.{Event}
 use Rattle.escpos_link.specs.Wire.{WireView, given_up, heard_from, with_bytes, with_link}
 use Rattle.escpos_till.specs.declared.book.Book.{Book}
 use Rattle.escpos_till.specs.declared.entry.Entry.{Entry}
+use Rattle.escpos_till.specs.declared.entry.Entry.TheVariants as entry
 use Rattle.escpos_till.specs.declared.machine.Stage.{Stage}
 use Rattle.escpos_till.specs.declared.machine.Stage.TheVariants as stage
 use Rattle.escpos_till.specs.declared.machine.Talk.{Talk}
@@ -104,6 +105,9 @@ refused_down error.InFlightFull first openings h refused = absurd refused
 kept_so : (next : Then) (m mid : MachineView) (w : World) (a : Around) (e : Entry) (it : Answers m mid w a) → w.told ≡ a.told → ShowsWire (stage.Keeping e next) m.host w.wire a.wire
     → Follows next m.host m.book.next mid.book mid.host mid.stage → Leads w mid a
 kept_so then.Queued m mid w a e it notes (down, same) (number, is, host, at) = answered_down m mid w a it _ notes down host same at
+kept_so (then.Take content) m mid w a e it notes (down, same) (host, at) =
+    let down' : mid.host.phase ≡ Down = ap (λ h. h.phase) host ∙ down in
+    answered m mid w a it (stage.Keeping (entry.Queued content) then.Queued) w.wire notes at (wired_down m.host mid.host w.wire down down') (down', same)
 kept_so then.Raised m mid w a e it notes (down, same) (host, at) = answered_down m mid w a it _ notes down host same at
 kept_so (then.Cancelled number tried) m mid w a e it notes (down, same) (host, at) = answered_down m mid w a it _ notes down host same at
 kept_so (then.Send due) m mid w a e it notes (down, (events, goes)) (inl (host, at)) =
@@ -115,6 +119,7 @@ kept_so (then.Recorded number) m mid w a e it notes (up, (dropped, same)) (drops
 lost_so : (next : Then) (why : StoreFault) (m mid : MachineView) (w : World) (a : Around) (e : Entry) (it : Answers m mid w a) → w.told ≡ a.told
     → ShowsWire (stage.Keeping e next) m.host w.wire a.wire → Drops m.host mid.host → mid.stage ≡ lost next why → Leads w mid a
 lost_so then.Queued why m mid w a e it notes (down, same) drops at = answered_down m mid w a it _ notes down (drops.0 down) same at
+lost_so (then.Take content) why m mid w a e it notes (down, same) drops at = answered_down m mid w a it _ notes down (drops.0 down) same at
 lost_so then.Raised why m mid w a e it notes (down, same) drops at = answered_down m mid w a it _ notes down (drops.0 down) same at
 lost_so (then.Cancelled number tried) why m mid w a e it notes (down, same) drops at = answered_down m mid w a it _ notes down (drops.0 down) same at
 lost_so (then.Send due) why m mid w a e it notes (down, (events, goes)) drops at = answered_unsent m mid w a it _ events notes down (gone m.host mid.host drops) goes at
@@ -181,6 +186,7 @@ revised_so (then.Recorded number) m mid w a e it notes (up, (dropped, same)) (in
 revised_so (then.Recorded number) m mid w a e it notes (up, (dropped, same)) (inr (tried, cancelled, drops, at)) =
     answered_off m mid w a it _ dropped notes up (gone m.host mid.host drops) same at
 revised_so then.Queued m mid w a e it notes shown none = absurd none
+revised_so (then.Take content) m mid w a e it notes shown none = absurd none
 revised_so then.Raised m mid w a e it notes shown none = absurd none
 revised_so (then.Cancelled number tried) m mid w a e it notes shown none = absurd none
 

@@ -92,6 +92,7 @@ ends_on (Pauses number why) m mid ending (talk, is, news, mid_is) = absurd (endi
 -- After an entry that may be kept or not, its owner is told that; from then on it has failed.
 lost_lags : (next : Then) (why : StoreFault) → BookMayLag (lost next why)
 lost_lags then.Queued why = tt
+lost_lags (then.Take content) why = tt
 lost_lags then.Raised why = tt
 lost_lags (then.Cancelled number tried) why = tt
 lost_lags (then.Send due) why = tt

@@ -7,10 +7,10 @@ use Rattle.std.proofs.lemmas.Option.{same_Some}
 use Rattle.escpos_command.specs.declared.command.Command.{Command}
 use Rattle.escpos_till.specs.declared.entry.Content.{Content}
 use Rattle.escpos_till.specs.declared.entry.Entry.{Entry}
-use Rattle.escpos_till.specs.declared.entry.Entry.TheVariants.{Queued, Tried, Recorded, Raised, Cancelled}
+use Rattle.escpos_till.specs.declared.entry.Entry.TheVariants.{Queued, Tried, Recorded, Raised, Cancelled, Key}
 use Rattle.escpos_till.specs.Entries.{MayFollow, Taken, cancel_of, cancelled, content_of, contents, next_free, numbered_from, record_of, recorded, taken}
 use Rattle.escpos_till.specs.Delivers.{FirstWaits}
-use Rattle.escpos_till.proofs.EntryLemmas.{next_after_cancelled, next_after_queued, next_after_raised, next_after_recorded, next_after_tried}
+use Rattle.escpos_till.proofs.EntryLemmas.{next_after_cancelled, next_after_key, next_after_queued, next_after_raised, next_after_recorded, next_after_tried}
 use Rattle.escpos_till_model.specs.Receipts.{Among, AreReceipts, IsReceiptOf, IsTaken}
 
 -- ## What is among a list
@@ -160,3 +160,4 @@ next_grows es (Tried number next) follows = omega (arith, follows.1, next_after_
 next_grows es (Recorded number) follows = omega (arith, next_after_recorded es number)
 next_grows es (Raised next) follows = omega (arith, follows, next_after_raised es next)
 next_grows es (Cancelled number) follows = omega (arith, next_after_cancelled es number)
+next_grows es (Key key) follows = omega (arith, next_after_key es key)

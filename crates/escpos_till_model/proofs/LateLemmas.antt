@@ -24,7 +24,7 @@ use Rattle.escpos_link.specs.Wire.{WireView, given_up, line_of, wire_of, with_li
 use Rattle.escpos_link.proofs.AtTheEnd.{hung_up_by}
 use Rattle.escpos_till.specs.declared.entry.Content.{Content}
 use Rattle.escpos_till.specs.declared.entry.Entry.{Entry}
-use Rattle.escpos_till.specs.declared.entry.Entry.TheVariants.{Queued, Tried, Recorded, Raised, Cancelled}
+use Rattle.escpos_till.specs.declared.entry.Entry.TheVariants.{Queued, Tried, Recorded, Raised, Cancelled, Key}
 use Rattle.escpos_till.specs.declared.tries.Try.{Try}
 use Rattle.escpos_till.specs.Delivers.{FirstWaits, fresh}
 use Rattle.escpos_till.specs.Entries.{IsLedger, MayFollow, Taken, Waits, cancel_of, cancelled, cancel_place_of, contents, is_open, next_free, numbered_from, place_of, record_of, recorded, taken}
@@ -76,6 +76,7 @@ one_below es (Queued content) n c follows has = absurd has
 one_below es (Recorded m) n c follows has = absurd has
 one_below es (Raised next) n c follows has = absurd has
 one_below es (Cancelled m) n c follows has = absurd has
+one_below es (Key key) n c follows has = absurd has
 one_below es (Tried m next) n c follows (inr none) = absurd none
 one_below es (Tried m next) n c follows (inl (number, closing)) =
     let last = next_after_tried es m next in
@@ -327,6 +328,7 @@ above limit es (Queued content) m c within follows has = absurd has
 above limit es (Recorded k) m c within follows has = absurd has
 above limit es (Raised next) m c within follows has = absurd has
 above limit es (Cancelled k) m c within follows has = absurd has
+above limit es (Key key) m c within follows has = absurd has
 above limit es (Tried k next) m c within follows (inr none) = absurd none
 above limit es (Tried k next) m c within follows (inl (number, closing)) = let more = follows.1 in omega (arith, within, more, closing)
 

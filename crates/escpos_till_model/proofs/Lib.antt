@@ -20,6 +20,8 @@ mod Carrying
 mod Widths
 mod DriverDoes
 mod Served
+mod Queueing
+mod Keying
 mod OffLine
 mod Rows
 mod WireLines

@@ -2,6 +2,7 @@
 use Rattle.std.proofs.Common.{◌≡◌, inl, inr, List, [], ◌∷◌, refl, sym, ◌∙◌, ap, subst}
 use Rattle.escpos_link.specs.Wire.{WireView}
 use Rattle.escpos_till.specs.declared.entry.Entry.{Entry}
+use Rattle.escpos_till.specs.declared.entry.Entry.TheVariants as entry
 use Rattle.escpos_till.specs.declared.machine.Stage.{Stage}
 use Rattle.escpos_till.specs.declared.machine.Stage.TheVariants as stage
 use Rattle.escpos_till.specs.declared.machine.Then.{Then}
@@ -13,11 +14,13 @@ use Rattle.escpos_till.specs.Driver.{Breaks, Call, Calls, Cancel, Deed, Deliver,
 use Rattle.escpos_till.specs.Learning.{Learned}
 use Rattle.escpos_till.specs.Machine.{Kept, MachineView, Unsure, after_note, lost, told}
 use Rattle.escpos_till_model.specs.Bridge.{AllOnWire, IsOffLine, IsOnLine}
+use Rattle.escpos_till_model.proofs.Queueing.{queues_to}
 
 -- It keeps an entry that isn't about a link, tells its owner something, or rests.
 abbrev IsQuiet : Stage → Type 0
 IsQuiet stage.AtRest = Unit {0}
 IsQuiet (stage.Keeping e then.Queued) = Unit {0}
+IsQuiet (stage.Keeping e (then.Take content)) = Unit {0}
 IsQuiet (stage.Keeping e then.Raised) = Unit {0}
 IsQuiet (stage.Keeping e (then.Cancelled number tried)) = Unit {0}
 IsQuiet (stage.Telling n) = Unit {0}
@@ -43,6 +46,7 @@ note_quiet (note_kind.NotKept why) = tt
 
 kept_quiet : (e : Entry) (next : Then) (m mid : MachineView) → IsQuiet (stage.Keeping e next) → Kept (stage.Keeping e next) m mid → IsQuiet mid.stage
 kept_quiet e then.Queued m mid quiet (notes, (number, count, host, is)) = quiet_as mid.stage (stage.Telling (note_kind.Queued number)) is tt
+kept_quiet e (then.Take content) m mid quiet (notes, (host, is)) = quiet_as mid.stage (stage.Keeping (entry.Queued content) then.Queued) is tt
 kept_quiet e then.Raised m mid quiet (notes, (host, is)) = quiet_as mid.stage (stage.Telling note_kind.Raised) is tt
 kept_quiet e (then.Cancelled number tried) m mid quiet (notes, (host, is)) = quiet_as mid.stage (stage.Telling (note_kind.Cancelled number tried)) is tt
 kept_quiet e (then.Send due) m mid quiet kept = absurd quiet
@@ -50,6 +54,7 @@ kept_quiet e (then.Recorded number) m mid quiet kept = absurd quiet
 
 lost_quiet : (e : Entry) (next : Then) (why : StoreFault) → IsQuiet (stage.Keeping e next) → IsQuiet (lost next why)
 lost_quiet e then.Queued why quiet = tt
+lost_quiet e (then.Take content) why quiet = tt
 lost_quiet e then.Raised why quiet = tt
 lost_quiet e (then.Cancelled number tried) why quiet = tt
 lost_quiet e (then.Send due) why quiet = absurd quiet
@@ -58,6 +63,7 @@ lost_quiet e (then.Recorded number) why quiet = absurd quiet
 learned_quiet : (e : Entry) (next : Then) (others : List Entry) (m mid : MachineView) → IsQuiet (stage.Keeping e next) → Learned (stage.Keeping e next) others m mid → IsQuiet mid.stage
 learned_quiet e next others m mid quiet (inr (why, fails)) = quiet_as mid.stage (lost next why) fails.2 (lost_quiet e next why quiet)
 learned_quiet e then.Queued others m mid quiet (inl learns) = absurd learns.2
+learned_quiet e (then.Take content) others m mid quiet (inl learns) = absurd learns.2
 learned_quiet e then.Raised others m mid quiet (inl learns) = absurd learns.2
 learned_quiet e (then.Cancelled number tried) others m mid quiet (inl learns) = absurd learns.2
 learned_quiet e (then.Send due) others m mid quiet (inl learns) = absurd quiet
@@ -101,7 +107,7 @@ quiet_all did (d ∷ ds) m after old new w quiet (mid, between, turns, sound, fi
     quiet_first d ds w never (quiet_all did ds mid after between new w goes more)
 
 asked_quiet : (call : Call) (m asked : MachineView) → IsOffLine call → Calls m call asked → IsQuiet asked.stage
-asked_quiet (Queue content) m asked off calls = quiet_as asked.stage _ calls.keeps tt
+asked_quiet (Queue content key) m asked off calls = queues_to IsQuiet (λ number. tt) (λ c. tt) (λ e c. tt) m content key asked calls
 asked_quiet (Raise first) m asked off calls = quiet_as asked.stage _ (ap (λ v. v.stage) calls.after_is) tt
 asked_quiet (Cancel number) m asked off calls = quiet_as asked.stage _ (ap (λ v. v.stage) calls.after_is) tt
 asked_quiet (Deliver openings most copy) m asked off calls = absurd off

@@ -18,6 +18,7 @@ use Rattle.escpos_till_model.specs.declared.event.Happening.{Happening}
 use Rattle.escpos_till_model.specs.declared.event.Happening.TheVariants as event
 use Rattle.escpos_till_model.proofs.Driven.{crashed, driven}
 use Rattle.escpos_till_model.proofs.DriverDoes.{rests_at_end, rests_no_link}
+use Rattle.escpos_till_model.proofs.Queueing.{queues_to}
 use Rattle.escpos_till_model.proofs.TillHappens.{called_in}
 use Rattle.escpos_till_model.proofs.TillWorlds.{comes_on, fits_by, starts_in}
 
@@ -26,19 +27,19 @@ abbrev pub Fitting : Type 0
 Fitting = (receipt : List Command) → Whole receipt → AreCommands receipt → IsFitting (line.Submit receipt)
 
 abbrev happening_of : Call → Happening
-happening_of (Queue content) = event.Queue content
+happening_of (Queue content key) = event.Queue content key
 happening_of (Raise first) = event.Raise first
 happening_of (Cancel number) = event.Cancel number
 happening_of (Deliver openings most copy) = event.Deliver openings most copy
 
 asked_host : (call : Call) (m asked : MachineView) → Calls m call asked → asked.host ≡ m.host
-asked_host (Queue content) m asked calls = calls.host
+asked_host (Queue content key) m asked calls = calls.host
 asked_host (Raise first) m asked calls = ap (λ v. v.host) calls.after_is
 asked_host (Cancel number) m asked calls = ap (λ v. v.host) calls.after_is
 asked_host (Deliver openings most copy) m asked calls = calls.0.host
 
 asked_no_link : (call : Call) (m asked : MachineView) → Calls m call asked → HasNoLink asked.stage
-asked_no_link (Queue content) m asked calls = subst HasNoLink (sym calls.keeps) tt
+asked_no_link (Queue content key) m asked calls = queues_to HasNoLink (λ number. tt) (λ c. tt) (λ e c. tt) m content key asked calls
 asked_no_link (Raise first) m asked calls = subst HasNoLink (sym (ap (λ v. v.stage) calls.after_is)) tt
 asked_no_link (Cancel number) m asked calls = subst HasNoLink (sym (ap (λ v. v.stage) calls.after_is)) tt
 asked_no_link (Deliver openings most copy) m asked calls = subst HasNoLink (sym calls.0.connects) tt
@@ -46,7 +47,7 @@ asked_no_link (Deliver openings most copy) m asked calls = subst HasNoLink (sym 
 -- The call happens in the world, where nothing else changes.
 called_so : Fitting → (call : Call) (w : World) (m asked : MachineView) → w.machine ≡ Some m → Calls m call asked → MayCall call → IsSound asked.host
     → Happens w (happening_of call) (running asked w.kept w.wire w.told)
-called_so fitting (Queue content) w m asked was calls may sound = called_in (λ k after. Queues k content after) w w m asked refl was calls sound (asked_host (Queue content) m asked calls)
+called_so fitting (Queue content key) w m asked was calls may sound = called_in (λ k after. Queues k content key after) w w m asked refl was calls sound (asked_host (Queue content key) m asked calls)
 called_so fitting (Raise first) w m asked was calls may sound = called_in (λ k after. Raises k first after) w w m asked refl was calls sound (asked_host (Raise first) m asked calls)
 called_so fitting (Cancel number) w m asked was calls may sound = called_in (λ k after. Cancels k number after) w w m asked refl was calls sound (asked_host (Cancel number) m asked calls)
 called_so fitting (Deliver openings most copy) w m asked was calls is_copy sound = (

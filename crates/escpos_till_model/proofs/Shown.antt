@@ -145,6 +145,8 @@ later stage.AtRest m a w es after is shows (down, same) goes = later_with m a w 
 later (stage.Connecting due) m a w es after is shows (down, same) goes = later_with m a w es after after (stage.Connecting due) is shows (later_same m a w es after same goes) (down, refl)
 later (stage.Keeping e then.Queued) m a w es after is shows (down, same) goes =
     later_with m a w es after after (stage.Keeping e then.Queued) is shows (later_same m a w es after same goes) (down, refl)
+later (stage.Keeping e (then.Take content)) m a w es after is shows (down, same) goes =
+    later_with m a w es after after (stage.Keeping e (then.Take content)) is shows (later_same m a w es after same goes) (down, refl)
 later (stage.Keeping e then.Raised) m a w es after is shows (down, same) goes =
     later_with m a w es after after (stage.Keeping e then.Raised) is shows (later_same m a w es after same goes) (down, refl)
 later (stage.Keeping e (then.Cancelled number tried)) m a w es after is shows (down, same) goes =

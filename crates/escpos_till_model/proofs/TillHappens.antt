@@ -16,6 +16,7 @@ use Rattle.escpos_printer.specs.declared.printer.FeedStop.{FeedStop}
 use Rattle.escpos_printer.specs.declared.printer.FeedStop.TheVariants as stop
 use Rattle.escpos_till.specs.declared.book.Book.{Book}
 use Rattle.escpos_till.specs.Delivers.{fresh}
+use Rattle.escpos_till.specs.declared.entry.Content.{Content}
 use Rattle.escpos_till.specs.declared.entry.Entry.{Entry}
 use Rattle.escpos_till.specs.declared.entry.Entry.TheVariants as entry
 use Rattle.escpos_till.specs.declared.machine.Due.{Due}
@@ -26,7 +27,7 @@ use Rattle.escpos_till.specs.declared.machine.Then.{Then}
 use Rattle.escpos_till.specs.declared.machine.Then.TheVariants as then
 use Rattle.escpos_till.specs.declared.machine.TillNote.{TillNote}
 use Rattle.escpos_till.specs.declared.store.StoreFault.{StoreFault}
-use Rattle.escpos_till.specs.Machine.{Came, Drops, Ended, Follows, GoesOn, Kept, MachineView, Opens, Submits, Turns, Unsure, connected, hung_up, not_connected, told, with_pause}
+use Rattle.escpos_till.specs.Machine.{Came, Drops, Ended, Follows, GoesOn, Kept, MachineView, Opens, Submits, Suits, Turns, Unsure, connected, hung_up, not_connected, told, with_pause}
 use Rattle.escpos_till_model.specs.Kept.{Hand, IsInHand, Keeps}
 use Rattle.escpos_till_model.specs.Known.{Holds, IsToKeep, IsWorld, Linked}
 use Rattle.escpos_till_model.specs.World.{Calls, GoesOnWire, Hears, Idles, Runs, Stores, Tells, Wired, World, running, with_entry, with_wire}
@@ -111,7 +112,9 @@ up_by kept hand h (stage.Keeping (entry.Queued content) next) holds linked = abs
 up_by kept hand h (stage.Keeping (entry.Tried number limit) next) holds linked = absurd linked
 up_by kept hand h (stage.Keeping (entry.Raised first) next) holds linked = absurd linked
 up_by kept hand h (stage.Keeping (entry.Cancelled number) next) holds linked = absurd linked
+up_by kept hand h (stage.Keeping (entry.Key key) next) holds linked = absurd linked
 up_by kept hand h (stage.Keeping (entry.Recorded number) then.Queued) (follows, (none, content, is)) linked = absurd (cc is)
+up_by kept hand h (stage.Keeping (entry.Recorded number) (then.Take content)) (follows, (none, suits)) linked = absurd suits
 up_by kept hand h (stage.Keeping (entry.Recorded number) then.Raised) (follows, (none, first, is)) linked = absurd (cc is)
 up_by kept hand h (stage.Keeping (entry.Recorded number) (then.Cancelled n tried)) (follows, (none, is, times)) linked = absurd (cc is)
 up_by kept hand h (stage.Keeping (entry.Recorded number) (then.Send due)) (follows, (none, send, is)) linked = absurd (cc is)
@@ -128,6 +131,7 @@ pub down_by : (kept : List Entry) (hand : Option Hand) (h : HostView) (s : Stage
 down_by kept hand h stage.AtRest k none linked = none_down kept hand h k none
 down_by kept hand h (stage.Connecting due) k (none, send) linked = none_down kept hand h k none
 down_by kept hand h (stage.Keeping e then.Queued) k (follows, (none, content, is)) linked = none_down kept hand h k none
+down_by kept hand h (stage.Keeping e (then.Take content)) k (follows, (none, suits)) linked = none_down kept hand h k none
 down_by kept hand h (stage.Keeping e then.Raised) k (follows, (none, first, is)) linked = none_down kept hand h k none
 down_by kept hand h (stage.Keeping e (then.Cancelled number tried)) k (follows, (none, is, times)) linked = none_down kept hand h k none
 down_by kept hand h (stage.Keeping e (then.Send due)) k (follows, (none, send, is)) linked = none_down kept hand h k none
@@ -146,6 +150,7 @@ linked_or_not (stage.Keeping (entry.Tried number limit) next) = inr (λ l. l)
 linked_or_not (stage.Keeping (entry.Recorded number) next) = inl tt
 linked_or_not (stage.Keeping (entry.Raised first) next) = inr (λ l. l)
 linked_or_not (stage.Keeping (entry.Cancelled number) next) = inr (λ l. l)
+linked_or_not (stage.Keeping (entry.Key key) next) = inr (λ l. l)
 linked_or_not (stage.Talking talk) = inl tt
 linked_or_not (stage.HangingUp n) = inr (λ l. l)
 linked_or_not (stage.Telling n) = inr (λ l. l)
@@ -200,12 +205,27 @@ pub to_keep : (w : World) (m : MachineView) (e : Entry) (next : Then) → (known
     → let p = parts w m was known in IsToKeep w.kept p.hand (with_earlier p.earlier m.host) e next
 to_keep w m e next known was is = let p = parts w m was known in (subst (λ s. Holds w.kept p.hand (with_earlier p.earlier m.host) s) is p.holds).1
 
+-- Nor is a machine on a link that keeps an entry before that of a receipt.
+first_unlinked : (e : Entry) (content : Content) → Suits (then.Take content) e → Linked (stage.Keeping e (then.Take content)) → ⊥
+first_unlinked (entry.Key key) content suits linked = linked
+first_unlinked (entry.Raised next) content suits linked = linked
+first_unlinked (entry.Queued c) content suits linked = linked
+first_unlinked (entry.Tried n next) content suits linked = linked
+first_unlinked (entry.Cancelled n) content suits linked = linked
+first_unlinked (entry.Recorded n) content suits linked = suits
+
+first_no_try : (e : Entry) (content : Content) (number limit : ℕ) → Suits (then.Take content) e → e ≢ entry.Tried number limit
+first_no_try e content number limit suits is = subst (Suits (then.Take content)) is suits
+
 pub other_wired : (w : World) (m after : MachineView) (wire : WireView) (e : Entry) (next : Then) (hand : Option Hand) (h : HostView) → IsWorld w → w.machine ≡ Some m
     → m.stage ≡ stage.Keeping e next → IsToKeep w.kept hand h e next → ((number limit : ℕ) → e ≢ entry.Tried number limit)
     → Follows next m.host m.book.next after.book after.host after.stage → (Linked m.stage → wire ≡ given_up w.wire) → ((Linked m.stage → ⊥) → wire ≡ w.wire)
     → Wired m.host after.host w.wire wire
 other_wired w m after wire e then.Queued hand h known was is (none, content, e_is) other (number, n_is, host, now) gone stays =
     let free : Linked m.stage → ⊥ = λ l. subst (λ x. Linked (stage.Keeping x then.Queued)) e_is (subst Linked is l) in
+    subst (λ v. Wired m.host after.host w.wire v) (sym (stays free)) (unwired m.host after.host w.wire host)
+other_wired w m after wire e (then.Take content) hand h known was is (none, suits) other (host, now) gone stays =
+    let free : Linked m.stage → ⊥ = λ l. first_unlinked e content suits (subst Linked is l) in
     subst (λ v. Wired m.host after.host w.wire v) (sym (stays free)) (unwired m.host after.host w.wire host)
 other_wired w m after wire e then.Raised hand h known was is (none, first, e_is) other (host, now) gone stays =
     let free : Linked m.stage → ⊥ = λ l. subst (λ x. Linked (stage.Keeping x then.Raised)) e_is (subst Linked is l) in
@@ -241,6 +261,7 @@ keeps_other w m after wire e next known was is other kept sound gone stays =
 by_next : (kept : List Entry) (hand : Option Hand) (h : HostView) (m after : MachineView) (e : Entry) (next : Then) (number limit : ℕ) → e ≡ entry.Tried number limit
     → IsToKeep kept hand h e next → Follows next m.host m.book.next after.book after.host after.stage → (due : Due) × Opens due m.book.next after.host after.stage
 by_next kept hand h m after e then.Queued number limit tried (none, content, is) so = absurd (let bad : entry.Queued content ≡ entry.Tried number limit = sym is ∙ tried in cc)
+by_next kept hand h m after e (then.Take content) number limit tried (none, suits) so = absurd (first_no_try e content number limit suits tried)
 by_next kept hand h m after e then.Raised number limit tried (none, first, is) so = absurd (let bad : entry.Raised first ≡ entry.Tried number limit = sym is ∙ tried in cc)
 by_next kept hand h m after e (then.Cancelled n often) number limit tried (none, is, times) so = absurd (let bad : entry.Cancelled n ≡ entry.Tried number limit = sym is ∙ tried in cc)
 by_next kept hand h m after e (then.Send due) number limit tried holds so = (due, so)

@@ -42,7 +42,7 @@ crashed_width w new (Some m) is crashes = elim (down_or_up m.host.phase) [
 
 step_width : LineLaws → (e : Happening) (w new : World) → IsWorld w → Happens w e new → width_of new.wire ≡ width_of w.wire
 step_width laws event.Start w new known happened = ap (λ k. width_of k.wire) happened.is
-step_width laws (event.Queue content) w new known happened = ap (λ k. width_of k.wire) happened.is ∙ wired_width happened.m.host happened.after.host w.wire happened.wire happened.wired
+step_width laws (event.Queue content key) w new known happened = ap (λ k. width_of k.wire) happened.is ∙ wired_width happened.m.host happened.after.host w.wire happened.wire happened.wired
 step_width laws (event.Raise first) w new known happened = ap (λ k. width_of k.wire) happened.is ∙ wired_width happened.m.host happened.after.host w.wire happened.wire happened.wired
 step_width laws (event.Cancel number) w new known happened = ap (λ k. width_of k.wire) happened.is ∙ wired_width happened.m.host happened.after.host w.wire happened.wire happened.wired
 step_width laws (event.Deliver openings most copy) w new known (is_copy, happened) =

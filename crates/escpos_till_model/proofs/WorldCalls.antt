@@ -24,8 +24,9 @@ use Rattle.escpos_till.specs.Copy.{copy_line, sent_of}
 use Rattle.escpos_till.specs.Delivers.{marks_taken}
 use Rattle.escpos_receipt.specs.Whole.{Whole}
 use Rattle.escpos_till.specs.Delivers.{FirstWaits}
-use Rattle.escpos_till.specs.Machine.{Cancels, Delivers, Drops, Ended, IsNext, MachineView, Queues, Raises, SameEntries, after_note, at, connected, ended_by_pause, hung_up as machine_hung_up, lost, not_connected, told, with_pause}
+use Rattle.escpos_till.specs.Machine.{Cancels, Delivers, Drops, Ended, IsKnown, IsNew, IsNext, MachineView, Queues, Raises, SameEntries, after_note, at, connected, ended_by_pause, hung_up as machine_hung_up, lost, not_connected, taking, told, with_pause}
 use Rattle.escpos_till.proofs.EntryLemmas.{length-taken}
+use Rattle.escpos_till.proofs.KeyLemmas.{key_taken}
 use Rattle.escpos_till_model.proofs.EntryFacts.{among_cons, among_filtered, among_last, among_nothing, first_among, first_is_taken}
 use Rattle.escpos_till_model.proofs.Keeping.{gone_keeps}
 use Rattle.escpos_till_model.specs.Receipts.{Among, IsReceipt}
@@ -120,14 +121,35 @@ at_rest m kept w rest p = (
 pub live_at : (s t : Stage) → s ≡ t → (BookMayLag t → ⊥) → BookMayLag s → ⊥
 live_at s t same live lost = live (subst BookMayLag same lost)
 
-pub queued : (w new : World) (content : Content) → IsWorld w → Calls (λ m after. Queues m content after) w new → IsWorld new
-queued w new content known moves =
+-- What is kept first of a receipt, and the number of one that has the key.
+taking_holds : (kept : List Entry) (hand : Option Hand) (h : HostView) (b : Book) (key : Option (List ℕ)) (content : Content) → IsBookOf b kept → hand ≡ None → IsNew b key
+    → Holds kept hand h (taking key b.last_key b.next content)
+taking_holds kept hand h b key content book none new = by key b.last_key new
+  where
+    by : (key last : Option (List ℕ)) → IsNew b key → Holds kept hand h (taking key last b.next content)
+    by (Some key) last new = (new kept book, (none, tt))
+    by None (Some last) new = (omega (arith, book.next), (none, tt))
+    by None None new = (tt, (none, content, refl))
+
+known_so : (kept : List Entry) (b : Book) (key : Option (List ℕ)) (number : ℕ) → IsBookOf b kept → IsKnown b key number → IsSo kept (note_kind.Queued number)
+known_so kept b (Some key) number book known = key_taken kept key number (known kept book)
+known_so kept b None number book known = absurd known
+
+queues_holds : (kept : List Entry) (hand : Option Hand) (h : HostView) (m : MachineView) (content : Content) (key : Option (List ℕ)) (after : MachineView) → IsBookOf m.book kept → hand ≡ None → Queues m content key after
+    → Holds kept hand h after.stage
+queues_holds kept hand h m content key after book none queues = elim queues.goes [
+  | inl (number, known, is) ↦ subst (λ s. Holds kept hand h s) (sym is) (none, known_so kept m.book key number book known)
+  | inr (new, is) ↦ subst (λ s. Holds kept hand h s) (sym is) (taking_holds kept hand h m.book key content book none new)
+]
+
+pub queued : (w new : World) (content : Content) (key : Option (List ℕ)) → IsWorld w → Calls (λ m after. Queues m content key after) w new → IsWorld new
+queued w new content key known moves =
     let p = parts w moves.m moves.was known in
     let (book, none) = at_rest moves.m w.kept w.wire moves.goes.rest p in
     subst IsWorld (sym moves.is) (whole moves.after w.kept moves.wire w.told known.told
     (same_host moves.m moves.after w.kept w.wire moves.wire p moves.goes.host moves.sound moves.wired
     (λ live. moves.goes.book w.kept book)
-    (subst (λ s. Holds w.kept p.hand (with_earlier p.earlier moves.m.host) s) (sym moves.goes.keeps) (tt, (none, content, refl)))))
+    (queues_holds w.kept p.hand (with_earlier p.earlier moves.m.host) moves.m content key moves.after book none moves.goes)))
 
 pub raised : (w new : World) (first : ℕ) → IsWorld w → Calls (λ m after. Raises m first after) w new → IsWorld new
 raised w new first known moves =

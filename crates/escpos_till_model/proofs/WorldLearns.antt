@@ -47,6 +47,7 @@ other_records (entry.Tried n next) is = absurd is
 other_records (entry.Recorded n) is = absurd is
 other_records (entry.Raised next) is = refl
 other_records (entry.Cancelled n) is = refl
+other_records (entry.Key key) is = refl
 
 other_tries : (e : Entry) → IsOthers e → tries (e ∷ []) ≡ []
 other_tries (entry.Queued content) is = refl
@@ -54,6 +55,7 @@ other_tries (entry.Tried n next) is = absurd is
 other_tries (entry.Recorded n) is = absurd is
 other_tries (entry.Raised next) is = refl
 other_tries (entry.Cancelled n) is = refl
+other_tries (entry.Key key) is = refl
 
 -- With those of others the entries are accounted for still, whatever is in hand.
 others_account : LineLaws → (kept others : List Entry) (hand : Option Hand) (h : HostView) (w : WireView) → AllByRecursion IsOthers others → FollowAll kept others → Accounted kept hand h w
@@ -190,6 +192,7 @@ learned_parts laws m after kept others w new e (then.Recorded n) p each follow f
     gives_up laws m after kept others w new p each follow drops sound wired (λ live. book)
     (subst (λ s. Holds (kept ++ others) None (with_earlier p.earlier after.host) s) (sym now) (refl, cancelled_so (kept ++ others) n tried (cancelled (kept ++ others) book)))
 learned_parts laws m after kept others w new e then.Queued p each follow follows to_keep book none sound wired = absurd none
+learned_parts laws m after kept others w new e (then.Take content) p each follow follows to_keep book none sound wired = absurd none
 learned_parts laws m after kept others w new e then.Raised p each follow follows to_keep book none sound wired = absurd none
 learned_parts laws m after kept others w new e (then.Cancelled n tried) p each follow follows to_keep book none sound wired = absurd none
 

@@ -38,7 +38,7 @@ use Rattle.escpos_till.specs.declared.store.StoreFault.{StoreFault}
 use Rattle.escpos_till.specs.declared.machine.Then.TheVariants as then
 use Rattle.escpos_till.specs.Delivers.{fresh, marks_taken}
 use Rattle.escpos_till.specs.Tries.{HasTry, tries}
-use Rattle.escpos_till.specs.Machine.{Drops, Ended, Follows, Kept, MachineView, Opens, Unsure, first_talk, lost, put}
+use Rattle.escpos_till.specs.Machine.{Drops, Ended, Follows, Kept, MachineView, Opens, Suits, Unsure, first_talk, lost, put}
 use Rattle.escpos_till.proofs.EntryLemmas.{count_states, next_after_tried, some_state}
 use Rattle.escpos_till.proofs.MachineLemmas.{waits_tried}
 use Rattle.escpos_till_model.proofs.Accounts.{same_times, times_stay}
@@ -363,6 +363,7 @@ breaks laws w new most fewer why known v =
 -- What the store's failure leaves: nothing is in hand, and what the machine knows may not be all.
 pub lost_lags : (next : Then) (why : StoreFault) → BookMayLag (lost next why)
 lost_lags then.Queued why = tt
+lost_lags (then.Take content) why = tt
 lost_lags then.Raised why = tt
 lost_lags (then.Cancelled number tried) why = tt
 lost_lags (then.Send due) why = tt
@@ -370,6 +371,7 @@ lost_lags (then.Recorded number) why = tt
 
 pub lost_holds : (next : Then) (why : StoreFault) (kept : List Entry) (h : HostView) → Holds kept None h (lost next why)
 lost_holds then.Queued why kept h = (refl, tt)
+lost_holds (then.Take content) why kept h = (refl, tt)
 lost_holds then.Raised why kept h = (refl, tt)
 lost_holds (then.Cancelled number tried) why kept h = (refl, tt)
 lost_holds (then.Send due) why kept h = (refl, tt)
@@ -390,6 +392,23 @@ tried_late laws kept hand h w due right k send late =
     (λ few. laws.promise.made (line_of h w) k.receipts (record { receipt = due.receipt; mark = mark_of (limit - 1) }) (limit - 1) right.trusted
     (let more = send.follows.1 in omega (arith, k.next, more)) few refl) late
 
+-- An entry that comes before that of a receipt says neither a record nor a try.
+first_records_none : (e : Entry) (content : Content) → Suits (then.Take content) e → record_of e ≡ None
+first_records_none (entry.Key key) content suits = refl
+first_records_none (entry.Raised next) content suits = refl
+first_records_none (entry.Queued c) content suits = absurd suits
+first_records_none (entry.Tried n next) content suits = absurd suits
+first_records_none (entry.Recorded n) content suits = absurd suits
+first_records_none (entry.Cancelled n) content suits = absurd suits
+
+first_tries_none : (e : Entry) (content : Content) → Suits (then.Take content) e → tries (e ∷ []) ≡ []
+first_tries_none (entry.Key key) content suits = refl
+first_tries_none (entry.Raised next) content suits = refl
+first_tries_none (entry.Queued c) content suits = absurd suits
+first_tries_none (entry.Tried n next) content suits = absurd suits
+first_tries_none (entry.Recorded n) content suits = absurd suits
+first_tries_none (entry.Cancelled n) content suits = absurd suits
+
 -- The entries with that one are kept by a host that has given its link up.
 pub stored_account : LineLaws → (kept : List Entry) (e : Entry) (next : Then) (hand : Option Hand) (earlier : List (List Command)) (h h' : HostView) (w new : WireView) → IsSound h
     → Wired h h' w new → Right (line_of (with_earlier earlier h) w) → Accounted kept hand (with_earlier earlier h) w
@@ -397,6 +416,9 @@ pub stored_account : LineLaws → (kept : List Entry) (e : Entry) (next : Then) 
 stored_account laws kept e then.Queued hand earlier h h' w new sound wired right a follows (none, content, is) drops =
     gone_account laws earlier h h' (kept ++ e ∷ []) hand w new sound drops wired right
     (more_account laws kept e hand (with_earlier earlier h) w (ap record_of is) (ap (λ x. tries (x ∷ [])) is) follows a)
+stored_account laws kept e (then.Take content) hand earlier h h' w new sound wired right a follows (none, suits) drops =
+    gone_account laws earlier h h' (kept ++ e ∷ []) hand w new sound drops wired right
+    (more_account laws kept e hand (with_earlier earlier h) w (first_records_none e content suits) (first_tries_none e content suits) follows a)
 stored_account laws kept e then.Raised hand earlier h h' w new sound wired right a follows (none, first, is) drops =
     gone_account laws earlier h h' (kept ++ e ∷ []) hand w new sound drops wired right
     (more_account laws kept e hand (with_earlier earlier h) w (ap record_of is) (ap (λ x. tries (x ∷ [])) is) follows a)
@@ -663,6 +685,9 @@ kept_parts laws m after kept w new e then.Queued p book follows (none, content, 
     quietly_kept laws m after kept w new e p follows none (ap record_of entry_is) (ap (λ x. tries (x ∷ [])) entry_is) host sound wired known
     (subst (λ s. Holds (kept ++ e ∷ []) p.hand (with_earlier p.earlier m.host) s) (sym now)
     (none, queued_so after.book (kept ++ e ∷ []) kept content number known (ap (λ x. kept ++ x ∷ []) entry_is) is))
+kept_parts laws m after kept w new e (then.Take content) p book follows (none, suits) (host, now) known sound wired =
+    quietly_kept laws m after kept w new e p follows none (first_records_none e content suits) (first_tries_none e content suits) host sound wired known
+    (subst (λ s. Holds (kept ++ e ∷ []) p.hand (with_earlier p.earlier m.host) s) (sym now) (tt, (none, content, refl)))
 kept_parts laws m after kept w new e then.Raised p book follows (none, first, entry_is) (host, now) known sound wired =
     quietly_kept laws m after kept w new e p follows none (ap record_of entry_is) (ap (λ x. tries (x ∷ [])) entry_is) host sound wired known
     (subst (λ s. Holds (kept ++ e ∷ []) p.hand (with_earlier p.earlier m.host) s) (sym now) (none, tt))

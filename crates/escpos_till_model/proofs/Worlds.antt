@@ -35,7 +35,7 @@ use Rattle.escpos_till_model.proofs.WorldHears.{hears}
 
 pub whatever : LineLaws → (w new : World) (e : Happening) → IsWorld w → Happens w e new → IsWorld new
 whatever laws w new Start known happened = started laws w new known happened
-whatever laws w new (Queue content) known happened = queued w new content known happened
+whatever laws w new (Queue content key) known happened = queued w new content key known happened
 whatever laws w new (Raise first) known happened = raised w new first known happened
 whatever laws w new (Cancel number) known happened = cancels w new number known happened
 whatever laws w new (Deliver openings most copy) known happened = delivers w new openings most copy known happened.0 happened.1
@@ -79,7 +79,7 @@ same_entries old new same = ([], same ∙ sym (append-nil old))
 
 pub entries_stay : (w new : World) (e : Happening) → Happens w e new → Extends w.kept new.kept
 entries_stay w new Start happened = same_entries w.kept new.kept (ap (λ v. v.kept) happened.is)
-entries_stay w new (Queue content) happened = same_entries w.kept new.kept (ap (λ v. v.kept) happened.is)
+entries_stay w new (Queue content key) happened = same_entries w.kept new.kept (ap (λ v. v.kept) happened.is)
 entries_stay w new (Raise first) happened = same_entries w.kept new.kept (ap (λ v. v.kept) happened.is)
 entries_stay w new (Cancel number) happened = same_entries w.kept new.kept (ap (λ v. v.kept) happened.is)
 entries_stay w new (Deliver openings most copy) happened = same_entries w.kept new.kept (ap (λ v. v.kept) happened.1.is)

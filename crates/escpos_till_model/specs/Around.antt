@@ -59,6 +59,7 @@ abbrev pub HasNoLink : Stage → Type 0
 HasNoLink stage.AtRest = Unit {0}
 HasNoLink (stage.Connecting due) = Unit {0}
 HasNoLink (stage.Keeping e then.Queued) = Unit {0}
+HasNoLink (stage.Keeping e (then.Take content)) = Unit {0}
 HasNoLink (stage.Keeping e then.Raised) = Unit {0}
 HasNoLink (stage.Keeping e (then.Cancelled number tried)) = Unit {0}
 HasNoLink (stage.Telling note) = Unit {0}

@@ -21,7 +21,7 @@ use Rattle.escpos_till.specs.declared.machine.TillNote.TheVariants as note
 use Rattle.escpos_till.specs.Book.{IsBookOf}
 use Rattle.escpos_till.specs.Delivers.{marks_taken}
 use Rattle.escpos_till.specs.Entries.{MayFollow, Waits, next_free, recorded, times_tried}
-use Rattle.escpos_till.specs.Machine.{MachineView}
+use Rattle.escpos_till.specs.Machine.{MachineView, Suits}
 use Rattle.escpos_till_model.specs.Kept.{Hand, Keeps}
 use Rattle.escpos_till_model.specs.Late.{HasJustBegun, LateAnswers}
 use Rattle.escpos_till_model.specs.Receipts.{Among, IsReceiptOf}
@@ -51,6 +51,7 @@ pub record IsToSend (kept : List Entry) (due : Due) : Type 0 where
 -- What an entry that is to be kept is, by what follows it.
 abbrev pub IsToKeep : List Entry → Option Hand → HostView → Entry → Then → Type 0
 IsToKeep kept hand h e then.Queued = (hand ≡ None) × (content : Content) × (e ≡ entry.Queued content)
+IsToKeep kept hand h e (then.Take content) = (hand ≡ None) × Suits (then.Take content) e
 IsToKeep kept hand h e then.Raised = (hand ≡ None) × (first : ℕ) × (e ≡ entry.Raised first)
 IsToKeep kept hand h e (then.Cancelled number tried) = (hand ≡ None) × (e ≡ entry.Cancelled number) × (times_tried kept number ≡ tried)
 IsToKeep kept hand h e (then.Send due) = (hand ≡ None) × IsToSend kept due × (e ≡ entry.Tried due.number (next_free kept + marks_taken due.openings))

@@ -79,6 +79,7 @@ IsAbout number (entry.Tried n next) = n ≡ number
 IsAbout number (entry.Recorded n) = n ≡ number
 IsAbout number (entry.Raised next) = ⊥
 IsAbout number (entry.Cancelled n) = n ≡ number
+IsAbout number (entry.Key key) = ⊥
 
 -- By this entry the receipt with this number is recorded or cancelled, and waits no more.
 abbrev pub IsEndOf : ℕ → Entry → Type 0
@@ -87,3 +88,4 @@ IsEndOf number (entry.Tried n next) = ⊥
 IsEndOf number (entry.Recorded n) = n ≡ number
 IsEndOf number (entry.Raised next) = ⊥
 IsEndOf number (entry.Cancelled n) = n ≡ number
+IsEndOf number (entry.Key key) = ⊥

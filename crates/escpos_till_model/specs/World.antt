@@ -227,7 +227,7 @@ IsCopy (Some text) = IsCopyText text
 
 abbrev pub Happens : World → Happening → World → Type 0
 Happens w event.Start new = Starts w new
-Happens w (event.Queue content) new = Calls (λ m after. Queues m content after) w new
+Happens w (event.Queue content key) new = Calls (λ m after. Queues m content key after) w new
 Happens w (event.Raise first) new = Calls (λ m after. Raises m first after) w new
 Happens w (event.Cancel number) new = Calls (λ m after. Cancels m number after) w new
 Happens w (event.Deliver openings most copy) new = IsCopy copy × Calls (λ m after. Delivers m openings most copy after × FitsLine after.stage) w new

@@ -4,7 +4,9 @@ ghost use Rattle.std.specs.Prelude.{◌≡◌};
 
 use escpos_host::SendFault;
 use escpos_link::Event;
-use escpos_till::{Entry, ReceiptContent, ReceiptNumber, StoreFault, Text, TillRefusal};
+use escpos_till::{
+    Entry, ReceiptContent, ReceiptKey, ReceiptNumber, StoreFault, Text, TillRefusal,
+};
 use std::marker::Model;
 
 /// Entries that others add to a ledger. The model is their list.
@@ -43,8 +45,11 @@ impl OthersEntries {
 pub enum Happening {
     /// The till is switched on: a machine is made of the entries that are there.
     Start,
-    /// The machine takes a receipt.
-    Queue(ReceiptContent),
+    /// The machine takes a receipt, which comes with this key or with none; or, if a receipt has the key, it has that one's number to tell.
+    Queue {
+        receipt: ReceiptContent,
+        key: Option<ReceiptKey>,
+    },
     /// The machine raises the next mark number to this one.
     Raise(u32),
     /// The machine cancels the receipt with this number, which waits.

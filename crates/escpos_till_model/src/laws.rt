@@ -1,7 +1,7 @@
 //! Proof only: the laws of a ledger's receipts, of a till in the world, and of what a driver did on a real store and a real line. The contract
 //! of each function is the law; when run, it does nothing.
 
-ghost use Rattle.std.specs.Prelude.{ℕ, ◌≡◌, ◌<◌, ◌≤◌, ◌⊎◌, Option, List, [], ◌∷◌, ◌++◌, None, length};
+ghost use Rattle.std.specs.Prelude.{ℕ, ◌≡◌, ◌<◌, ◌≤◌, ◌⊎◌, Option, List, [], ◌∷◌, ◌++◌, None, Some, length};
 ghost use Rattle.escpos_link.specs.Line.{IsLine, LineView};
 ghost use Rattle.escpos_link.specs.Trusted.{IsTrusted};
 ghost use Rattle.escpos_link.specs.Wire.{WireView, given_up, wire_of};
@@ -13,10 +13,10 @@ ghost use Rattle.escpos_till.specs.declared.machine.TillNote.{TillNote};
 ghost use Rattle.escpos_till.specs.declared.machine.TillNote.TheVariants as note;
 ghost use Rattle.escpos_till.specs.declared.machine.TillRefusal.TheVariants as refusal;
 ghost use Rattle.escpos_till.specs.declared.surroundings.Surroundings.{Surroundings};
-ghost use Rattle.escpos_till.specs.Entries.{IsLedger, Taken, cancelled, next_free, recorded, taken, times_tried, waiting};
+ghost use Rattle.escpos_till.specs.Entries.{HasKey, IsLedger, Taken, cancelled, next_free, recorded, taken, times_tried, waiting};
 ghost use Rattle.escpos_host.specs.Machine.{IsSound};
 ghost use Rattle.escpos_till.specs.Book.{IsBookOf};
-ghost use Rattle.escpos_till.specs.Driver.{Answered, Call, Ran, RanTo, Serves, Tells};
+ghost use Rattle.escpos_till.specs.Driver.{Answered, Call, Queue, Ran, RanTo, Serves, Tells};
 ghost use Rattle.escpos_till.specs.Machine.{Delivers, IsStarted, MachineView, RefusesDeliver, after_note};
 ghost use Rattle.escpos_till.specs.Surroundings.{Did};
 ghost use Rattle.escpos_till_model.specs.Again.{HearsAnswer, IsLostFirst, IsNotTriedAgain};
@@ -166,7 +166,8 @@ pub fn a_line_in_memory_is_like_its_wire()
 /// A call of a till's machine that a driver has served, in a world that has come of one that began: happenings lead to a world around the
 /// machine as it is then, whose store has what it holds, or what a crash may leave now, and whose owner was told the note. So the next call may
 /// follow, or a crash; what is recorded stands on the paper, each receipt that was taken is kept, and the note is so: a receipt that it says
-/// is cancelled is, and was tried so often, and no entry tries it later.
+/// is cancelled is, and was tried so often, and no entry tries it later. If a receipt was to be taken with a key, the one with the number that
+/// the note says has this key, and no other has it, whatever a crash leaves.
 pub fn a_served_till_is_in_the_world<S: Store, L: PrinterLine>()
     ensures served { (world : World) (m after : MachineView) (old new : Surroundings S L) (call : Call) (note : TillNote) (most : ℕ) (wire : WireView) → IsServed S.faithful S.holds S.leaves S.says L.did world m old call note most after new wire
         → after_note note ≡ stage.AtRest → (entries : List Entry) × S.holds new.store entries × (after.stage ≡ stage.AtRest) × GoesTo world after (around entries wire (world.told ++ note ∷ [])) }
@@ -184,12 +185,16 @@ pub fn a_served_till_is_in_the_world<S: Store, L: PrinterLine>()
         → S.leaves new.store left → EachIsKept left × Extends world.kept left }
     ensures queued { (world : World) (m after : MachineView) (old new : Surroundings S L) (call : Call) (number most : ℕ) (wire : WireView) (left : List Entry)
         → IsServed S.faithful S.holds S.leaves S.says L.did world m old call (note.Queued number) most after new wire → S.leaves new.store left → (0 < number) × (number ≤ length (taken left)) }
+    ensures keyed { (world : World) (m after : MachineView) (old new : Surroundings S L) (content : Content) (key : List ℕ) (number most : ℕ) (wire : WireView) (left : List Entry)
+        → IsServed S.faithful S.holds S.leaves S.says L.did world m old (Queue content (Some key)) (note.Queued number) most after new wire → S.leaves new.store left
+        → HasKey left key number × ((other : ℕ) → HasKey left key other → other ≡ number) }
     ensures recorded { (world : World) (m after : MachineView) (old new : Surroundings S L) (call : Call) (number most : ℕ) (wire : WireView) (left : List Entry)
         → IsServed S.faithful S.holds S.leaves S.says L.did world m old call (note.Recorded number) most after new wire → S.leaves new.store left → Among number (recorded left) }
     ensures cancelled { (world : World) (m after : MachineView) (old new : Surroundings S L) (call : Call) (number tried most : ℕ) (wire : WireView) (left : List Entry)
         → IsServed S.faithful S.holds S.leaves S.says L.did world m old call (note.Cancelled number tried) most after new wire → S.leaves new.store left → Among number (cancelled left) × (times_tried left number ≡ tried) }
 {
     escpos_link::laws::fitting();
+    escpos_till::laws::one_key_is_one_receipt();
     every_world();
     what_is_recorded_stands();
 }

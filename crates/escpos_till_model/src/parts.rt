@@ -21,8 +21,8 @@ use escpos_host::SendFault;
 use escpos_link::{Event, Wire};
 use escpos_printer::Condition;
 use escpos_till::{
-    Action, CopyText, Entry, NoMachine, ReceiptContent, ReceiptNumber, StoreFault, Text,
-    TillMachine, TillNote,
+    Action, CopyText, Entry, NoMachine, ReceiptContent, ReceiptKey, ReceiptNumber, StoreFault,
+    Text, TillMachine, TillNote,
 };
 use std::alloc::{AllocError, Global};
 use std::marker::Model;
@@ -53,7 +53,7 @@ impl TillParts {
     {
         match event {
             Happening::Start => self.start(alloc),
-            Happening::Queue(receipt) => self.queue(receipt),
+            Happening::Queue { receipt, key } => self.queue(receipt, key),
             Happening::Raise(first) => self.raise(first),
             Happening::Cancel(number) => self.cancel(number),
             Happening::Deliver {
@@ -104,14 +104,14 @@ impl TillParts {
         }
     }
 
-    fn queue(&mut self, receipt: ReceiptContent) -> Result<(), NotPossible>
-        ensures happened { OnOk result (Happens self.old (event.Queue receipt) self.new) }
-        ensures refused { IfErr result (λ why. Instead why (event.Queue receipt) self.old self.new) }
+    fn queue(&mut self, receipt: ReceiptContent, key: Option<ReceiptKey>) -> Result<(), NotPossible>
+        ensures happened { OnOk result (Happens self.old (event.Queue receipt key) self.new) }
+        ensures refused { IfErr result (λ why. Instead why (event.Queue receipt key) self.old self.new) }
     {
         let Some(machine) = &mut self.machine else {
             return Err(NotPossible::SwitchedOff);
         };
-        if let Err((why, _receipt)) = machine.queue(receipt) {
+        if let Err((why, _receipt)) = machine.queue(receipt, key) {
             // Proof only: its host is sound.
             machine.is_sound();
             return Err(NotPossible::Machine(why));

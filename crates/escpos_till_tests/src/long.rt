@@ -1,7 +1,7 @@
 //! Long ledgers in SQLite: as many entries as a byte counts and more are added, and read from files that were closed.
 
 use crate::support::stores::{closed, new_files, opened};
-use crate::support::tills::number;
+use crate::support::tills::{key, number};
 use escpos_store::SqliteStore;
 use escpos_till::{Appended, Content, Entry, Store};
 use sqlite::Alter;
@@ -10,7 +10,7 @@ use std::process::Abort;
 
 // What a test adds as its entry of this number, from 1 on: the kinds take turns, and each entry says its number.
 fn entry_at(rt: &impl Abort, alloc: Global, at: u32) -> Entry {
-    match at % 5 {
+    match at % 6 {
         0 => Entry::Raised { next: at },
         1 => Entry::Queued {
             content: Content::new(at.to_be_bytes().to_vec(alloc).expect(rt, "memory")),
@@ -22,20 +22,29 @@ fn entry_at(rt: &impl Abort, alloc: Global, at: u32) -> Entry {
         3 => Entry::Recorded {
             number: number(rt, at as usize),
         },
-        _ => Entry::Cancelled {
+        4 => Entry::Cancelled {
             number: number(rt, at as usize),
         },
+        _ => Entry::Key {
+            key: key(rt, &letters(at)),
+        },
     }
+}
+
+// The number in three letters.
+fn letters(at: u32) -> [u8; 3] {
+    [at, at / 26, at / 676].map(|digit| b'A' + (digit % 26) as u8)
 }
 
 // Whether it is that entry.
 fn is_entry_at(entry: &Entry, at: u32) -> bool {
     match entry {
-        Entry::Queued { content } => at % 5 == 1 && content.bytes() == at.to_be_bytes().as_slice(),
-        Entry::Tried { number, next } => at % 5 == 2 && number.get() == at as usize && *next == at,
-        Entry::Recorded { number } => at % 5 == 3 && number.get() == at as usize,
-        Entry::Raised { next } => at % 5 == 0 && *next == at,
-        Entry::Cancelled { number } => at % 5 == 4 && number.get() == at as usize,
+        Entry::Queued { content } => at % 6 == 1 && content.bytes() == at.to_be_bytes().as_slice(),
+        Entry::Tried { number, next } => at % 6 == 2 && number.get() == at as usize && *next == at,
+        Entry::Recorded { number } => at % 6 == 3 && number.get() == at as usize,
+        Entry::Raised { next } => at % 6 == 0 && *next == at,
+        Entry::Cancelled { number } => at % 6 == 4 && number.get() == at as usize,
+        Entry::Key { key } => at % 6 == 5 && key.bytes() == letters(at).as_slice(),
     }
 }
 

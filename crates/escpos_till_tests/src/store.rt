@@ -2,7 +2,7 @@
 //! crash.
 
 use crate::support::stores::{closed, new_files, opened};
-use crate::support::tills::number;
+use crate::support::tills::{key, number};
 use escpos_command::LineWidth;
 use escpos_receipt::ReceiptOptions;
 use escpos_store::SqliteStore;
@@ -36,6 +36,9 @@ fn entries_of(rt: &impl Abort, alloc: Global) -> Vec<Entry> {
     let _ = entries.push(Entry::Recorded { number });
     let _ = entries.push(Entry::Raised { next: u32::MAX });
     let _ = entries.push(Entry::Cancelled { number });
+    for text in [b"!".as_slice(), b"sale-7", &[b'~'; 64]] {
+        let _ = entries.push(Entry::Key { key: key(rt, text) });
+    }
     let _ = entries.push(Entry::Queued { content: empty });
     for (dots, replacement) in [
         (576, None),
@@ -66,6 +69,7 @@ fn are_alike(rt: &impl Abort, entry: &Entry, wanted: &Entry) {
         (Entry::Cancelled { number }, Entry::Cancelled { number: n }) => {
             assert!(rt; *number == *n);
         }
+        (Entry::Key { key }, Entry::Key { key: k }) => assert!(rt; key.bytes() == k.bytes()),
         _ => panic!(rt; "another kind of entry"),
     }
 }

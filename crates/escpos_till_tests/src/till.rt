@@ -2,5 +2,6 @@
 
 mod delivering;
 mod driver;
+mod keys;
 mod machine;
 mod rows;

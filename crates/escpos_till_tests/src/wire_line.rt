@@ -20,7 +20,7 @@ type Around = Surroundings<MemoryStore, WireLine>;
 
 // S is taken, sent and recorded.
 fn prints(rt: &impl Abort, alloc: Global, machine: &mut TillMachine, around: &mut Around) {
-    if machine.queue(receipt(rt, alloc, S.0)).is_err() {
+    if machine.queue(receipt(rt, alloc, S.0), None).is_err() {
         panic!(rt; "not taken");
     }
     assert!(rt; matches!(drive(machine, around, 1_000), Some(TillNote::Queued(_))));

@@ -21,6 +21,8 @@ pub fn asks_for(rt: &impl Abort, alloc: Global, words: &[&str], asked: Result<Ta
 pub enum Plain<'a> {
     Queue(&'a str, u16, Option<char>),
     Raw(&'a str, u16),
+    // with a key: whether it is a stream
+    Keyed(&'a str, bool),
     Again(&'a str, usize),
     Deliver(&'a str, Option<SocketAddrV4>, u32, u32, bool),
     Within(&'a str, Option<SocketAddrV4>, u32, u32, bool, u32),
@@ -45,12 +47,22 @@ fn v4_of(address: &Address) -> Option<SocketAddrV4> {
 
 fn plain_of<'a>(task: TillTask<'a>) -> Plain<'a> {
     match task {
-        TillTask::Queue { ledger, options } => Plain::Queue(
+        TillTask::Queue {
+            ledger,
+            options,
+            key: None,
+        } => Plain::Queue(
             ledger.text(),
             options.width.dots(),
             replacement_of(&options),
         ),
-        TillTask::QueueRaw { ledger, width } => Plain::Raw(ledger.text(), width.dots()),
+        TillTask::Queue { ledger, .. } => Plain::Keyed(ledger.text(), false),
+        TillTask::QueueRaw {
+            ledger,
+            width,
+            key: None,
+        } => Plain::Raw(ledger.text(), width.dots()),
+        TillTask::QueueRaw { ledger, .. } => Plain::Keyed(ledger.text(), true),
         TillTask::QueueAgain { ledger, number } => Plain::Again(ledger.text(), number.get()),
         TillTask::Deliver { ledger, delivery } => Plain::Deliver(
             ledger.text(),

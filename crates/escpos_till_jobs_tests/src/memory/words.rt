@@ -12,7 +12,7 @@ use escpos_jobs::receipt_input::NoReceipt;
 use escpos_jobs::status::Status;
 use escpos_receipt::{JsonError, ReceiptOptions};
 use escpos_till::{
-    Entry, Failure, MemoryStore, NoStore, ReceiptContent, ReceiptState, TillMachine,
+    Entry, Failure, MemoryStore, NoStore, ReceiptContent, ReceiptKey, ReceiptState, TillMachine,
 };
 use escpos_till_jobs::{
     LedgerPath, NoLine, TillTask, Word, open_machine, read_content,
@@ -94,7 +94,9 @@ fn queues(rt: &impl Abort, alloc: Global, store: MemoryStore) -> (MemoryStore, b
     let mut room = [0; 64];
     let mut output = MemoryOut::new(&mut room);
     let content = content_at_last(rt, alloc);
-    let (store, status) = done_with(alloc, (store, NoLine), Word::Queue(content), &mut output);
+    let key = ReceiptKey::new(b"sale-7");
+    let word = Word::Queue { content, key };
+    let (store, status) = done_with(alloc, (store, NoLine), word, &mut output);
     let is = is_told(rt, (output.written(), status), b"queued 1\n");
     (store, is)
 }
@@ -238,6 +240,7 @@ fn takes(rt: &impl Abort, alloc: Global, ledger: &mut OneLedger) -> bool {
     let task = TillTask::Queue {
         ledger: LedgerPath::new("a"),
         options: ReceiptOptions::usual(),
+        key: ReceiptKey::new(b"sale-7"),
     };
     performs(rt, alloc, ledger, task, (b"queued 1\n", Status::Good))
 }

@@ -1,7 +1,9 @@
 //! The calls of a till's machine, where memory is refused.
 
-use crate::support::tills::{bytes_at_last, number, receipt_at_last};
-use escpos_till::{Action, Content, Entry, NoMachine, ReceiptState, TillMachine, TillRefusal};
+use crate::support::tills::{bytes_at_last, key, number, receipt_at_last};
+use escpos_till::{
+    Action, Content, Entry, NoMachine, ReceiptState, TillMachine, TillNote, TillRefusal,
+};
 use std::alloc::Global;
 use std::process::Abort;
 
@@ -21,9 +23,9 @@ fn opened_at_last(rt: &impl Abort, alloc: Global, entries: &[Entry]) -> TillMach
 
 // S is taken.
 fn takes_at_last(rt: &impl Abort, alloc: Global, machine: &mut TillMachine) {
-    if let Err((why, receipt)) = machine.queue(receipt_at_last(rt, alloc)) {
+    if let Err((why, receipt)) = machine.queue(receipt_at_last(rt, alloc), None) {
         assert!(rt; why == TillRefusal::Memory);
-        if let Err((_, _receipt)) = machine.queue(receipt) {
+        if let Err((_, _receipt)) = machine.queue(receipt, None) {
             panic!(rt; "not taken");
         }
     }
@@ -68,11 +70,35 @@ fn cancel_refused(rt: HostRuntime) {
     assert!(&rt; machine.states() == [ReceiptState::Cancelled { tried: 0 }].as_slice());
 }
 
+// A receipt is taken with a key, and asked for again.
+#[test]
+fn keyed_refused(rt: HostRuntime) {
+    let mut machine = opened_at_last(&rt, rt.alloc(), &[]);
+    let receipt = receipt_at_last(&rt, rt.alloc());
+    if let Err((why, receipt)) = machine.queue(receipt, Some(key(&rt, b"sale-7"))) {
+        assert!(&rt; why == TillRefusal::Memory);
+        if let Err((_, _receipt)) = machine.queue(receipt, Some(key(&rt, b"sale-7"))) {
+            panic!(&rt; "not taken");
+        }
+    }
+    machine.appended(Ok(()));
+    machine.appended(Ok(()));
+    machine.told();
+    let receipt = receipt_at_last(&rt, rt.alloc());
+    assert!(&rt; machine.queue(receipt, Some(key(&rt, b"sale-7"))).is_ok());
+    match machine.asks() {
+        Action::Tell(note) => assert!(&rt; note == TillNote::Queued(number(&rt, 1))),
+        _ => panic!(&rt; "nothing to tell"),
+    }
+    assert!(&rt; machine.states() == [ReceiptState::Waiting { tried: 0 }].as_slice());
+}
+
 // The same entries, copied into a machine.
 #[test]
 fn machine_of_entries_refused(rt: HostRuntime) {
     let content = Content::new(bytes_at_last(&rt, rt.alloc()));
-    let entries = [Entry::Queued { content }];
+    let key = key(&rt, b"sale-7");
+    let entries = [Entry::Key { key }, Entry::Queued { content }];
     let machine = opened_at_last(&rt, rt.alloc(), &entries);
     assert!(&rt; machine.states() == [ReceiptState::Waiting { tried: 0 }].as_slice());
 }

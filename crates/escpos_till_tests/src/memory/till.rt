@@ -91,7 +91,7 @@ fn goes_on(rt: &impl Abort, alloc: Global, till: DrivenTill, came: Came) -> Driv
 }
 
 fn queues(rt: &impl Abort, alloc: Global, till: &mut DrivenTill) -> Came {
-    match till.machine.queue(receipt_at_last(rt, alloc)) {
+    match till.machine.queue(receipt_at_last(rt, alloc), None) {
         Ok(()) => follows(rt, till, TillNote::Queued(number(rt, 1))),
         Err((why, _receipt)) => refused(rt, why),
     }

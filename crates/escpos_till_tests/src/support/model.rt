@@ -116,7 +116,10 @@ fn told(plain: Plain) -> Happening {
 pub fn happening(rt: &impl Abort, alloc: Global, plain: Plain) -> Happening {
     match plain {
         Plain::Start => Happening::Start,
-        Plain::Queue => Happening::Queue(content(rt, alloc)),
+        Plain::Queue => Happening::Queue {
+            receipt: content(rt, alloc),
+            key: None,
+        },
         Plain::Raise => Happening::Raise(5),
         Plain::Cancel => Happening::Cancel(number(rt, 1)),
         Plain::Deliver => Happening::Deliver {

@@ -4,7 +4,7 @@ use escpos_host::SendFault;
 use escpos_receipt::{JsonError, ReceiptOptions};
 use escpos_test_receipts::{A, S};
 use escpos_till::{
-    CopyText, Entry, Failure, MemoryStore, PrinterLine, ReceiptContent, ReceiptNumber,
+    CopyText, Entry, Failure, MemoryStore, PrinterLine, ReceiptContent, ReceiptKey, ReceiptNumber,
     ReceiptState, Surroundings, TillMachine, TillNote, TillRefusal, drive,
 };
 use std::alloc::Global;
@@ -209,9 +209,40 @@ pub fn tells(rt: &impl Abort, till: &mut DrivenTill, note: TillNote) {
 
 // The receipt of a text is given to the machine.
 pub fn queues(rt: &impl Abort, alloc: Global, till: &mut DrivenTill, text: &[u8]) {
-    if let Err((_, _receipt)) = till.machine.queue(receipt(rt, alloc, text)) {
+    if let Err((_, _receipt)) = till.machine.queue(receipt(rt, alloc, text), None) {
         panic!(rt; "not taken");
     }
+}
+
+pub fn key(rt: &impl Abort, text: &[u8]) -> ReceiptKey {
+    ReceiptKey::new(text).expect(rt, "a key")
+}
+
+// The receipt of a text is given to the machine, with this key.
+pub fn queues_with(
+    rt: &impl Abort,
+    alloc: Global,
+    till: &mut DrivenTill,
+    (text, with): (&[u8], &[u8]),
+) {
+    if let Err((_, _receipt)) = till
+        .machine
+        .queue(receipt(rt, alloc, text), Some(key(rt, with)))
+    {
+        panic!(rt; "not taken");
+    }
+}
+
+// The same. The receipt that has the key has this number.
+pub fn takes_with(
+    rt: &impl Abort,
+    alloc: Global,
+    till: &mut DrivenTill,
+    (text, with): (&[u8], &[u8]),
+    at: usize,
+) {
+    queues_with(rt, alloc, till, (text, with));
+    tells(rt, till, TillNote::Queued(number(rt, at)));
 }
 
 // It is taken, and has this number.
@@ -260,7 +291,7 @@ pub fn nothing_waits(rt: &impl Abort, till: &mut DrivenTill) {
 
 // Its store has failed, and the machine refuses all.
 pub fn refuses_all(rt: &impl Abort, alloc: Global, till: &mut DrivenTill) {
-    match till.machine.queue(receipt(rt, alloc, A.0)) {
+    match till.machine.queue(receipt(rt, alloc, A.0), None) {
         Ok(()) => panic!(rt; "taken"),
         Err((why, _receipt)) => assert!(rt; why == TillRefusal::Failed),
     }

@@ -16,7 +16,7 @@ fn content(rt: &impl Abort, alloc: Global, text: &[u8]) -> Content {
 
 // It is to keep that a receipt is taken.
 fn queues(rt: &impl Abort, machine: &mut TillMachine, receipt: ReceiptContent) {
-    if let Err((_, _receipt)) = machine.queue(receipt) {
+    if let Err((_, _receipt)) = machine.queue(receipt, None) {
         panic!(rt; "not taken");
     }
 }

@@ -3,8 +3,8 @@
 //! A test makes the till and lends it to checks.
 
 use crate::support::tills::{
-    ANSWERS_01, ANSWERS_23, Answers, DrivenTill, drives, has_sent, new_till, nothing_waits, number,
-    opened_again, queues, refuses_all, stands, starts, takes, tells,
+    ANSWERS_01, ANSWERS_23, Answers, DrivenTill, drives, has_sent, key, new_till, nothing_waits,
+    number, opened_again, queues, refuses_all, stands, starts, takes, tells,
 };
 use escpos_host::SendFault;
 use escpos_receipt::{JsonError, JsonFault, ReceiptOptions};
@@ -216,7 +216,7 @@ fn store_fails_later(rt: HostRuntime) {
 }
 
 // An entry of a ledger: a receipt is taken; it is tried, and this is the next number; it is recorded; the next number is raised; it is
-// cancelled.
+// cancelled; a key is said, of this one letter.
 #[derive(Clone, Copy)]
 enum Plain {
     Taken,
@@ -224,12 +224,13 @@ enum Plain {
     Recorded(usize),
     Raised(u32),
     Cancelled(usize),
+    Key(u8),
 }
 
 // Entries that are no ledger, and would be one without the last of them: a receipt is recorded, or tried, that was never taken, or is
 // recorded; one is recorded untried, or twice; the next number stays at a try, or falls; one is cancelled that was never taken, or waits
-// no more; one is tried or recorded that is cancelled.
-const NO_LEDGERS: [&[Plain]; 15] = [
+// no more; one is tried or recorded that is cancelled; a key is said that a receipt has, but not one that is void.
+const NO_LEDGERS: [&[Plain]; 17] = [
     &[Plain::Recorded(1)],
     &[Plain::Tried(1, 9)],
     &[Plain::Taken, Plain::Tried(2, 2)],
@@ -270,6 +271,18 @@ const NO_LEDGERS: [&[Plain]; 15] = [
         Plain::Cancelled(1),
         Plain::Recorded(1),
     ],
+    &[Plain::Key(b'a'), Plain::Taken, Plain::Key(b'a')],
+    &[
+        Plain::Key(b'a'),
+        Plain::Raised(0),
+        Plain::Taken,
+        Plain::Key(b'a'),
+        Plain::Key(b'a'),
+        Plain::Taken,
+        Plain::Cancelled(2),
+        Plain::Key(b'b'),
+        Plain::Key(b'a'),
+    ],
 ];
 
 fn entry(rt: &impl Abort, alloc: Global, plain: Plain) -> Entry {
@@ -287,6 +300,9 @@ fn entry(rt: &impl Abort, alloc: Global, plain: Plain) -> Entry {
         Plain::Raised(next) => Entry::Raised { next },
         Plain::Cancelled(at) => Entry::Cancelled {
             number: number(rt, at),
+        },
+        Plain::Key(letter) => Entry::Key {
+            key: key(rt, &[letter]),
         },
     }
 }

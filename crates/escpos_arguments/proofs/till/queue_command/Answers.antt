@@ -6,11 +6,13 @@ use Rattle.escpos_arguments.proofs.till.queue_command.Goals as goal
 
 pub returns : goal.returns
 returns c =
-    let app_is : app_of c.in_ok-command.command ≡ with_rule (with_rule (with_rule (with_rule (with_rule (new_app (codes "queue")) ledger_rule) width_rule) replace_rule) (option_rule (codes "again") false)) (flag_rule (codes "raw")) =
+    let app_is : app_of c.in_ok-command.command ≡ with_rule (with_rule (with_rule (with_rule (with_rule (with_rule (new_app (codes "queue")) ledger_rule) width_rule) replace_rule) (option_rule (codes "again") false))
+    (option_rule (codes "key") false)) (flag_rule (codes "raw")) =
     c.in_ok-command.ensures.shape c.flag.ensures.local
+    ∙ ap₂ with_rule (c.in_ok-arg-5.ensures.shape c.option-4.ensures.local
     ∙ ap₂ with_rule (c.in_ok-arg-4.ensures.shape c.option-3.ensures.local
     ∙ ap₂ with_rule (c.in_ok-arg-3.ensures.shape c.option-2.ensures.local
     ∙ ap₂ with_rule (c.in_ok-arg-2.ensures.shape c.option.ensures.local
     ∙ ap₂ with_rule (c.in_ok-arg.ensures.shape c.ledger_argument.ensures.local
-    ∙ ap₂ with_rule c.new.ensures.app c.ledger_argument.ensures.rule) c.option.ensures.rule) c.option-2.ensures.rule) c.option-3.ensures.rule) c.flag.ensures.rule in
+    ∙ ap₂ with_rule c.new.ensures.app c.ledger_argument.ensures.rule) c.option.ensures.rule) c.option-2.ensures.rule) c.option-3.ensures.rule) c.option-4.ensures.rule) c.flag.ensures.rule in
     record { shape = ap (λ (a : App). a.top) app_is }

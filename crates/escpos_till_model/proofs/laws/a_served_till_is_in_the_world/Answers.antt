@@ -1,10 +1,11 @@
 -- A call that was served, in the world; and what holds of the world that it leads to.
-use Rattle.std.proofs.Common.{◌≡◌, ◌≤◌, [], ◌∷◌, ◌++◌, ◌∙◌, length, refl, sym, subst}
+use Rattle.std.proofs.Common.{◌≡◌, ◌≤◌, [], ◌∷◌, ◌++◌, ◌∙◌, Some, length, refl, sym, subst}
 use Rattle.escpos_till.specs.Surroundings.{Did}
 use Rattle.escpos_till.specs.declared.machine.Stage.TheVariants as stage
 use Rattle.escpos_till.specs.declared.machine.TillNote.TheVariants as note
-use Rattle.escpos_till.specs.Entries.{recorded, taken}
-use Rattle.escpos_till.specs.Driver.{Ran, Tells}
+use Rattle.escpos_till.specs.Book.{IsBookOf}
+use Rattle.escpos_till.specs.Entries.{IsLedger, recorded, taken}
+use Rattle.escpos_till.specs.Driver.{Queue, Ran, Tells}
 use Rattle.escpos_till_model.specs.Around.{DoesInTime, around}
 use Rattle.escpos_till_model.specs.Bridge.{notes_of}
 use Rattle.escpos_till_model.specs.World.{IsSo, Runs, off}
@@ -14,7 +15,9 @@ use Rattle.escpos_till_model.specs.Receipts.{Among, EachIsKept, Extends, Recorde
 use Rattle.escpos_till_model.proofs.DriverDoes.{does_all, does_to, holds_to, stage_at_end}
 use Rattle.escpos_till_model.proofs.Driven.{crash_down}
 use Rattle.escpos_till_model.proofs.OffLine.{off_line}
+use Rattle.escpos_till_model.proofs.Keying.{keyed_so}
 use Rattle.escpos_till_model.proofs.Served.{served_in, started_in, switched_off}
+use Rattle.escpos_till_model.proofs.WorldCalls.{parts}
 use Rattle.escpos_till_model.proofs.TillWorlds.{comes_on}
 use Rattle.escpos_till_model.proofs.Worlds.{entries_last}
 use Rattle.escpos_till_model.proofs.laws.a_served_till_is_in_the_world.Goals as goal
@@ -93,3 +96,16 @@ returns-clause-cancelled g c = λ world m after old new call number tried most w
     let among : Among (note.Cancelled number tried) goes.now.told = subst (λ a. Among (note.Cancelled number tried) a.told) goes.is.surrounds (world.told, [], refl) in
     subst (λ a. IsSo a.kept (note.Cancelled number tried)) (sym goes.is.surrounds)
     (c.what_is_recorded_stands.ensures.cancelled goes.come.first goes.now goes.come.happenings number tried goes.come.begins goes.come.runs among)
+
+pub returns-clause-keyed : goal.returns-clause-keyed
+returns-clause-keyed g c = λ world m after old new content key number most wire left it may.
+    let known = c.every_world.ensures it.come.first world it.come.happenings it.come.begins it.come.runs in
+    let p = parts world m it.is.machine known in
+    let book : IsBookOf m.book world.kept = p.book (λ lags. subst BookMayLag it.serves.calls.rest lags) in
+    let ran = does_to g.S.Store.faithful g.S.Store.holds g.S.Store.leaves g.S.Store.says g.L.PrinterLine.did g.met.S.Store.outlives it.serves.asked after old new (note.Queued number) most it.serves.runs world.kept left world.wire wire world.told it.store may
+    it.line in
+    let has = keyed_so key content number most m it.serves.asked after (around world.kept world.wire world.told) _ book p.account.keeps.ledger it.serves.calls ran in
+    let goes = returns-clause-may_leave g c world m after old new (Queue content (Some key)) (note.Queued number) most wire left it may in
+    let come = c.every_world.ensures goes.come.first goes.now goes.come.happenings goes.come.begins goes.come.runs in
+    let ledger : IsLedger left = subst (λ a. IsLedger a.kept) (sym goes.is.surrounds) come.account.keeps.ledger in
+    (has, λ other also. c.one_key_is_one_receipt.ensures.one_receipt left key other number ledger also has)

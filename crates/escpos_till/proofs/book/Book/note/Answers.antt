@@ -2,7 +2,7 @@
 use Rattle.std.proofs.Common.{refl, subst, arith}
 use Rattle.escpos_till.specs.Entries.{MayFollow, times_tried}
 use Rattle.escpos_till.proofs.EntryLemmas.{few_tries}
-use Rattle.escpos_till.proofs.BookLemmas.{book_after_queued, book_after_raised, book_after_tried, state_read}
+use Rattle.escpos_till.proofs.BookLemmas.{book_after_key, book_after_raised, book_after_tried, state_read}
 use Rattle.escpos_till.proofs.book.Book.note.Goals as goal
 
 pub one_try_more-requires : goal.one_try_more-requires
@@ -14,15 +14,15 @@ one_try_more-requires c =
       omega (arith, few_tries entries c.in-Tried.number, few),
     )
 
-pub returns-in-Queued : goal.returns-in-Queued
-returns-in-Queued c entries book ledger follows =
-    book_after_queued c.args.self.now _ entries c.args.entry c.in-Queued.content book ledger c.in-Queued.is c.push_reserved-in-Queued.ensures.items c.push_reserved.ensures.items refl refl refl refl refl
-
-pub returns-in-Tried : goal.returns-in-Tried
-returns-in-Tried c entries book ledger follows =
+pub returns-in-Tried-clause-notes : goal.returns-in-Tried-clause-notes
+returns-in-Tried-clause-notes c entries book ledger follows =
     book_after_tried c.args.self.now _ entries c.args.entry c.in-Tried.number c.in-Tried.next c.get-place.result c.index.result.now c.one_try_more.result book follows c.in-Tried.is
-    c.get-place.ensures.value c.index.ensures c.one_try_more.ensures refl refl refl refl refl refl c.push_reserved-in-Tried.ensures.items
+    c.get-place.ensures.value c.index.ensures c.one_try_more.ensures refl refl refl refl refl refl c.push_reserved.ensures.items refl refl
 
-pub returns-in-Raised : goal.returns-in-Raised
-returns-in-Raised c entries book ledger follows =
-    book_after_raised c.args.self.now _ entries c.args.entry c.in-Raised.next book c.in-Raised.is refl refl refl refl refl refl refl
+pub returns-in-Raised-clause-notes : goal.returns-in-Raised-clause-notes
+returns-in-Raised-clause-notes c entries book ledger follows =
+    book_after_raised c.args.self.now _ entries c.args.entry c.in-Raised.next book c.in-Raised.is refl refl refl refl refl refl refl refl refl
+
+pub returns-in-Key-clause-notes : goal.returns-in-Key-clause-notes
+returns-in-Key-clause-notes c entries book ledger follows =
+    book_after_key c.args.self.now _ entries c.args.entry c.in-Key.key book c.in-Key.is refl refl refl refl refl refl refl refl refl

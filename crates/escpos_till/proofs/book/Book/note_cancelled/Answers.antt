@@ -30,4 +30,4 @@ pub returns : goal.returns
 returns c entries book ledger follows =
     book_after_cancelled c.args.self.now _ entries _ c.args.number c.get-place.result c.index.result.now c.once_cancelled.result book follows refl c.get-place.ensures.value c.index.ensures
     c.once_cancelled.ensures c.new-2.result refl refl
-    (subst (λ (ss : List ReceiptState). IsFirstWaiting ss c.first_waiting_from-self.result) c.deref.ensures.value c.first_waiting_from-self.ensures) refl refl refl refl
+    (subst (λ (ss : List ReceiptState). IsFirstWaiting ss c.first_waiting_from-self.result) c.deref.ensures.value c.first_waiting_from-self.ensures) refl refl refl refl refl refl

@@ -27,4 +27,4 @@ first_waiting_from-self-requires-clause-passed c k s before is =
 pub returns : goal.returns
 returns c entries book ledger follows =
     book_after_recorded c.args.self.now _ entries _ c.args.number c.get-place.result book follows refl c.get-place.ensures.value c.new-2.result refl refl
-    (subst (λ (ss : List ReceiptState). IsFirstWaiting ss c.first_waiting_from-self.result) c.deref.ensures.value c.first_waiting_from-self.ensures) refl refl refl refl
+    (subst (λ (ss : List ReceiptState). IsFirstWaiting ss c.first_waiting_from-self.result) c.deref.ensures.value c.first_waiting_from-self.ensures) refl refl refl refl refl refl

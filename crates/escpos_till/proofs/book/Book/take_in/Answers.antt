@@ -28,7 +28,7 @@ loop-entry-preserved c = record {
       let front : List Entry = entries ++ take c.loop-entry.entry-index c.args.more.now in
       let (all, so, well) = c.loop-entry.invariant.so_far entries book ledger in
       let follows : MayFollow front c.entry-item.result = (c.if-not-may_follow.ensures front so).0 refl in
-      let noted = c.note.ensures front (c.reserve_try.ensures.same front (c.reserve.ensures.same front so)) well (subst (MayFollow front) (sym c.in-Ok.ensures) follows) in
+      let noted = c.note.ensures.notes front (c.reserve_try.ensures.same front (c.reserve.ensures.same front so)) well (subst (MayFollow front) (sym c.in-Ok.ensures) follows) in
       let longer = longer_by_one entries c.args.more.now c.loop-entry.entry-index c.entry-item.result c.loop-entry-test.true c.entry-item.is in
       (
         follow_longer entries c.args.more.now c.loop-entry.entry-index c.entry-item.result c.loop-entry-test.true c.entry-item.is all follows,
