@@ -1,7 +1,6 @@
 -- Why a receipt has the key that it came with, where a driver has told its number.
-use Rattle.std.proofs.Common.{ℕ, ◌≡◌, ◌+◌, ◌<◌, inl, inr, Option, Some, None, List, [], ◌∷◌, ◌++◌, length, refl, sym, ◌∙◌, ap, subst, append_assoc, length-append, append-nil, arith}
+use Rattle.std.proofs.Common.{ℕ, ◌≡◌, ◌+◌, inl, inr, Some, List, [], ◌∷◌, ◌++◌, length, refl, sym, ◌∙◌, ap, subst, append_assoc, length-append, append-nil, arith}
 use Rattle.std.proofs.lemmas.List.Elements.{filter_map-append}
-use Rattle.escpos_host.specs.Machine.{IsSound}
 use Rattle.escpos_till.specs.declared.book.Book.{Book}
 use Rattle.escpos_till.specs.declared.entry.Content.{Content}
 use Rattle.escpos_till.specs.declared.entry.Entry.{Entry}
@@ -15,7 +14,7 @@ use Rattle.escpos_till.specs.declared.machine.TillNote.TheVariants as note_kind
 use Rattle.escpos_till.specs.declared.store.StoreFault.{StoreFault}
 use Rattle.escpos_till.specs.Book.{IsBookOf}
 use Rattle.escpos_till.specs.Driver.{Breaks, Deed, DidAll, Ends, Gives, HangsUp, Keeps, Links, Loses, Misses, Pauses, Puts, RanTo, Tells, Turns}
-use Rattle.escpos_till.specs.Entries.{HasKey, IsLedger, MayFollow, content_of, contents, states, taken}
+use Rattle.escpos_till.specs.Entries.{HasKey, IsLedger, MayFollow, content_of, contents, states}
 use Rattle.escpos_till.specs.Machine.{Kept, MachineView, Queues, Unsure, after_note, lost, told}
 use Rattle.escpos_till.proofs.EntryLemmas.{count_states, ledger-snoc, length-taken}
 use Rattle.escpos_till_model.specs.Around.{Around, DoesInTime}

@@ -1,5 +1,4 @@
 -- A key is read where there is one.
-use Rattle.std.proofs.Common.{◌∙◌, ap}
 use Rattle.escpos_c.proofs.TillLineLemmas.{key_found, no_key_found}
 use Rattle.escpos_c.proofs.till_lines.key_in.Goals as goal
 

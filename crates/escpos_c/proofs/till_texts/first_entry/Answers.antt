@@ -1,7 +1,5 @@
 -- The first line is that of no entry.
-use Rattle.std.proofs.Common.{rules, Err, sym, subst}
-use Rattle.std.specs.Prelude.{IsErrOf}
-use Rattle.escpos_c.specs.declared.till_lines.NoEntry.TheVariants.{Damaged}
+use Rattle.std.proofs.Common.{rules}
 use Rattle.escpos_c.proofs.TillTextLemmas.{stopped_at}
 use Rattle.escpos_c.proofs.till_texts.first_entry.Goals as goal
 
