@@ -13,7 +13,8 @@ use Rattle.escpos_till.specs.declared.machine.TillNote.{TillNote}
 use Rattle.escpos_till.specs.declared.machine.TillNote.TheVariants as note_kind
 use Rattle.escpos_till.specs.declared.store.StoreFault.{StoreFault}
 use Rattle.escpos_till.specs.Book.{IsBookOf}
-use Rattle.escpos_till.specs.Driver.{Breaks, Deed, DidAll, Ends, Gives, HangsUp, Keeps, Links, Loses, Misses, Pauses, Puts, RanTo, Tells, Turns}
+use Rattle.escpos_till.specs.Driver.{Breaks, Deed, DidAll, Ends, Gives, HangsUp, Keeps, Learns, Links, Loses, Misses, Pauses, Puts, RanTo, Tells, Turns}
+use Rattle.escpos_till.specs.Learning.{Learned}
 use Rattle.escpos_till.specs.Entries.{HasKey, IsLedger, MayFollow, content_of, contents, states}
 use Rattle.escpos_till.specs.Machine.{Kept, MachineView, Queues, Unsure, after_note, lost, told}
 use Rattle.escpos_till.proofs.EntryLemmas.{count_states, ledger-snoc, length-taken}
@@ -88,6 +89,16 @@ told_on (note_kind.Paused number why) key kept b = tt
 told_on (note_kind.StillPaused number why) key kept b = tt
 told_on (note_kind.NotKept why) key kept b = tt
 
+learned_on : (e : Entry) (next : Then) (others : List Entry) (key : List ℕ) (kept after : List Entry) (m mid : MachineView) → Takes key kept m.book (stage.Keeping e next)
+    → Learned (stage.Keeping e next) others m mid → Takes key after mid.book mid.stage
+learned_on e next others key kept after m mid takes (inr (why, fails)) = takes_as key after mid.book mid.stage (lost next why) fails.2 (lost_on next why key kept after m.book mid.book e takes)
+learned_on e (then.Take content) others key kept after m mid takes (inl learns) = absurd learns.2
+learned_on e then.Queued others key kept after m mid takes (inl learns) = absurd learns.2
+learned_on e then.Raised others key kept after m mid takes (inl learns) = absurd takes
+learned_on e (then.Cancelled number tried) others key kept after m mid takes (inl learns) = absurd takes
+learned_on e (then.Send due) others key kept after m mid takes (inl learns) = absurd takes
+learned_on e (then.Recorded number) others key kept after m mid takes (inl learns) = absurd takes
+
 -- It goes on so, deed by deed.
 takes_on : (d : Deed) (key : List ℕ) (m mid : MachineView) (a new : Around) → Takes key a.kept m.book m.stage → Turns m d mid → DoesInTime a d new → Takes key new.kept mid.book mid.stage
 takes_on (Keeps e) key m mid a new takes (next, is, kept) did =
@@ -95,6 +106,8 @@ takes_on (Keeps e) key m mid a new takes (next, is, kept) did =
 takes_on (Loses e why) key m mid a new takes (next, is, unsure) did =
     takes_as key new.kept mid.book mid.stage (lost next why) (subst (λ s. Unsure s why m mid) is unsure).2
     (lost_on next why key a.kept new.kept m.book mid.book e (takes_at key a.kept m.book m.stage _ is takes))
+takes_on (Learns others) key m mid a new takes (e, next, is, learned) did =
+    learned_on e next others key a.kept new.kept m mid (takes_at key a.kept m.book m.stage _ is takes) (subst (λ s. Learned s others m mid) is learned)
 takes_on (Tells n) key m mid a new takes (is, mid_is) did =
     takes_as key new.kept mid.book mid.stage (after_note n) (ap (λ v. v.stage) (mid_is ∙ ap (λ s. told s m) is)) (told_on n key new.kept mid.book)
 takes_on Links key m mid a new takes (due, is, mid_is) did = absurd (takes_at key a.kept m.book m.stage _ is takes)
