@@ -1,9 +1,10 @@
 //! A printer that was told by GS a to tell its condition unasked, at the end of a wire, and the host at the other.
 
 use crate::support::lines::ONLINE;
-use escpos_command::{AutomaticStatus, LineWidth};
-use escpos_host::{Heard, Host, HostEvent, HostState};
-use escpos_link::{Handed, Note, Wire};
+use crate::support::wires::{hands_over, hears, linked, puts_out};
+use escpos_command::AutomaticStatus;
+use escpos_host::{Host, HostEvent, HostState};
+use escpos_link::{Handed, Wire};
 use escpos_printer::Condition;
 use std::alloc::Global;
 use std::process::Abort;
@@ -14,45 +15,16 @@ const COVER_OPEN: Condition = Condition {
     paper_end: false,
 };
 
-// The host hears what is on its way to it after this many bytes: this event, after so many more.
-fn hears(
-    rt: &impl Abort,
-    wire: &Wire,
-    host: &mut Host,
-    place: usize,
-    consumed: usize,
-    event: HostEvent,
-) {
-    let rest = wire.front(99).get(place..).expect(rt, "what is on its way");
-    assert!(rt; host.heard(rest) == Heard { consumed, event });
-}
-
 // The host is told the condition by this block.
 fn hears_block(rt: &impl Abort, wire: &Wire, host: &mut Host, place: usize, block: [u8; 4]) {
     let status = AutomaticStatus::new(block).expect(rt, "a block");
     hears(rt, wire, host, place, 4, HostEvent::Condition(status));
 }
 
-fn hands_over(rt: &impl Abort, wire: &mut Wire, wanted: Handed) {
-    match wire.hand_over() {
-        Ok(Note::Handed(what)) => assert!(rt; what == wanted),
-        _ => assert!(rt; false),
-    }
-}
-
-// A wire with a link.
-fn linked(rt: &impl Abort, alloc: Global) -> Wire {
-    let mut wire = Wire::new(alloc, ONLINE, LineWidth::usual()).expect(rt, "a wire");
-    assert!(rt; wire.link_up().is_ok());
-    wire
-}
-
 // The link is opened with mark 0. After the mark comes GS a 1.
 fn switches_on(rt: &impl Abort, wire: &mut Wire, host: &mut Host) {
-    let mut room = [0; 16];
     assert!(rt; host.link_up() == Ok(()));
-    let count = host.take_out(&mut room);
-    assert!(rt; wire.put(room.get(..count).expect(rt, "the mark")).is_ok());
+    puts_out(rt, wire, host);
     assert!(rt; wire.put(b"\x1Da\x01").is_ok());
     assert!(rt; wire.deliver(99).is_ok());
     hands_over(rt, wire, Handed::On);
