@@ -277,7 +277,10 @@ impl Ledgers<MemoryStore> for BusyLedger {
             return Err(NoStore::NoLedger);
         }
         for entry in &self.added {
-            let _ = store.append(entry);
+            // (once more where memory was refused)
+            if store.append(entry).is_err() {
+                let _ = store.append(entry);
+            }
         }
         Ok(store)
     }
