@@ -3,8 +3,9 @@
 //! They stand apart from what they test because tests are proved together with the functions of their crate: here no function
 //! is proved a second time for them. A test that looks into a value stands in the crate of that value.
 //!
-//! `words` is of what a till's words print, over a store in memory, `again` of a receipt that is taken once more, `raw` of streams of bytes, and `failing` of those over a store that fails; `tasks` is of what
-//! is asked for, done with a ledger at a path; `shared` is of a delivery meanwhile others add entries; `memory` lets each allocation of a call fail in turn. What they share is in `support`.
+//! `words` is of what a till's words print, over a store in memory, `again` of a receipt that is taken once more, `raw` of streams of bytes,
+//! and `failing` of those over a store that fails; `tasks` is of what is asked for, done with a ledger at a path; `shared` is of a delivery
+//! meanwhile others add entries; `memory` lets each allocation of a call fail in turn. What they share is in `support`.
 #![tactic(auto)]
 
 #[cfg(test)]

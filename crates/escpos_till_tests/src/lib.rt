@@ -5,9 +5,9 @@
 //! A test makes a value and lends it to checks that own nothing: each way out of a function drops what it owns, and a connection
 //! costs most.
 //!
-//! `till` is of the machine and its driver, over a store in memory, `learning` of what it makes of entries that others add; `model` of the simulated till; `store` of the store in SQLite, `long`
-//! of long ledgers in it, and `cut` of such whose files are cut off; `wire_line` of a till over a line in memory; `memory` lets each allocation of a call fail in turn. What they
-//! share is in `support`.
+//! `till` is of the machine and its driver, over a store in memory, `learning` of what it makes of entries that others add; `model` of the
+//! simulated till; `store` of the store in SQLite, `long` of long ledgers in it, and `cut` of such whose files are cut off; `wire_line` of a
+//! till over a line in memory; `memory` lets each allocation of a call fail in turn. What they share is in `support`.
 #![tactic(auto)]
 
 #[cfg(test)]
