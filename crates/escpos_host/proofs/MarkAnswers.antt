@@ -7,9 +7,9 @@ use Rattle.escpos_command.specs.declared.command.Command.{Command}
 use Rattle.escpos_command.specs.Digits.{mark_count, mark_of}
 use Rattle.escpos_host.specs.declared.host.Stage.{Stage}
 use Rattle.escpos_host.specs.declared.host.Stage.TheVariants as stage
-use Rattle.escpos_host.specs.Heard.{IsClosing, IsFirstWith, IsOpeningMark, RecordsUpTo, opened}
-use Rattle.escpos_host.specs.Kept.{AreMarks, IsConsistent, HasIdAmong, IsPlaceOf, pairs, phase_of, put_of, view_of}
-use Rattle.escpos_host.specs.Machine.{HostView, InFlight, Phase, Opening, Open, receipts_of}
+use Rattle.escpos_host.specs.Heard.{IsClosing, IsOpeningMark, RecordsUpTo, opened}
+use Rattle.escpos_host.specs.Kept.{AreMarks, IsConsistent, HasIdAmong, IsPlaceOf, pairs, phase_of, view_of}
+use Rattle.escpos_host.specs.Machine.{HostView, InFlight, Opening, Open, receipts_of}
 use Rattle.escpos_host.specs.Out.{Pending, Within, unsent}
 use Rattle.escpos_host.proofs.Pending.{more_receipts}
 use Rattle.escpos_host.proofs.Views.{OpenHost, enough_flying, enough_left, open_host, pairs_none}

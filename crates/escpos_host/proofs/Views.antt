@@ -1,8 +1,8 @@
 -- What a host keeps, and its model.
-use Rattle.std.proofs.Common.{◌≡◌, ℕ, ◌+◌, ◌≤◌, ◌==◌, true, false, List, [], ◌∷◌, ◌++◌, length, length-append, length-take, length-drop, take, drop, get_or, map, append-nil, append_assoc, zero, suc, refl, sym, ◌∙◌, ap, subst, arith}
+use Rattle.std.proofs.Common.{◌≡◌, ℕ, ◌+◌, ◌≤◌, ◌==◌, true, false, List, [], ◌∷◌, ◌++◌, length, length-append, length-take, length-drop, take, drop, get_or, append-nil, zero, suc, refl, sym, ◌∙◌, ap, subst, arith}
 use Rattle.std.specs.Prelude.{◌⊎◌, is_err, OnOk, OnErr, Result, Ok, Err, not, slice_get, IsTrue, ◌↔◌, ◌≢◌, Bool, ◌<◌}
 use Rattle.std.proofs.lemmas.Bool.Decides.{nat_tests}
-use Rattle.std.proofs.lemmas.List.{take_all, drop_all, drop-drop, drop-take, drop-append-le, take-append-drop, take-append-le, take-take}
+use Rattle.std.proofs.lemmas.List.{take_all, drop-drop, drop-take, drop-append-le, take-append-le, take-take}
 use Rattle.std.proofs.Math.Seq.{take-append_seam, drop-append_seam}
 use Rattle.std.specs.List.{insert, remove}
 use Rattle.escpos_command.specs.declared.command.Command.{Command}
@@ -13,7 +13,6 @@ use Rattle.escpos_host.specs.Kept.{AreMarks, FitsStage, IsConsistent, pairs, put
 use Rattle.escpos_command.specs.declared.command.Command.TheVariants as kind
 use Rattle.escpos_command.specs.Answers.{HalfAnswer}
 use Rattle.escpos_command.specs.CommandTable.{row, spell}
-use Rattle.std.specs.List.{AllByRecursion}
 use Rattle.escpos_command.specs.Digits.{mark_count, mark_of}
 use Rattle.escpos_host.specs.Machine.{HostView, InFlight, IsSound, Phase, Down, Opening, Open, state_of, ask_reports, linked_by, nudged, gone_down, receipts_of, taken_out, handed_out, submitted, with_left}
 use Rattle.escpos_host.specs.Out.{IsPlaced, Pending, Within, opening_commands, unsent, part_commands}

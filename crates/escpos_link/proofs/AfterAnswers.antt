@@ -7,7 +7,7 @@ use Rattle.escpos_command.specs.Grammar.{Reads}
 use Rattle.escpos_paper.specs.Page.{Sheet}
 use Rattle.escpos_host.specs.declared.host.HostEvent.{HostEvent}
 use Rattle.escpos_host.specs.declared.host.HostEvent.TheVariants as event
-use Rattle.escpos_host.specs.Heard.{EndsLink, IgnoresMark, IsClosing, IsFirstWith, IsOpeningMark, RecordsUpTo, Turns, recorded, recorded_late}
+use Rattle.escpos_host.specs.Heard.{EndsLink, IgnoresMark, IsClosing, IsFirstWith, IsOpeningMark, Turns, recorded, recorded_late}
 use Rattle.escpos_host.specs.Machine.{HostView, InFlight, Phase, Down, Opening, Open, receipts_of}
 use Rattle.escpos_host.proofs.Recording.{is_closing, oldest_has}
 use Rattle.escpos_link.specs.Stands.{Stands}

@@ -1,5 +1,5 @@
 -- A host hears answers: the line stays on its way, promises stay, and what is left is recorded only as it stands.
-use Rattle.std.proofs.Common.{◌≡◌, ◌≢◌, ◌<◌, ◌≤◌, inl, inr, ℕ, List, [], ◌∷◌, ◌++◌, length, take, drop, refl, sym, ◌∙◌, ap, subst, append-nil, append_assoc, take-append-drop}
+use Rattle.std.proofs.Common.{◌≡◌, ◌≢◌, inl, inr, ℕ, List, [], ◌∷◌, ◌++◌, take, drop, refl, sym, ◌∙◌, ap, subst, append-nil, append_assoc, take-append-drop}
 use Rattle.escpos_command.specs.declared.answer.Answer.{Answer}
 use Rattle.escpos_command.specs.declared.answer.Answer.TheVariants as answer
 use Rattle.escpos_command.specs.declared.command.Command.{Command}
@@ -7,19 +7,19 @@ use Rattle.escpos_command.specs.Answers.{Hears, answer_bytes, spell_answers}
 use Rattle.escpos_host.specs.declared.host.HostEvent.{HostEvent}
 use Rattle.escpos_host.specs.declared.host.HostEvent.TheVariants as heard
 use Rattle.escpos_host.specs.Heard.{EndsLink, HearsAll, HearsInTurn, Turns, last_of}
-use Rattle.escpos_host.specs.Machine.{HostView, InFlight, Phase, Down, Opening, Open, receipts_of}
+use Rattle.escpos_host.specs.Machine.{HostView, InFlight, Phase, Down, Open, receipts_of}
 use Rattle.escpos_host.proofs.Recording.{keeps}
 use Rattle.escpos_link.specs.EventTable.{heard_to}
 use Rattle.escpos_link.specs.Line.{IsLine, LineView}
 use Rattle.escpos_link.specs.Promised.{IsIn, PromisedBy, PromisedIn}
 use Rattle.escpos_link.specs.Stands.{Stands}
 use Rattle.escpos_link.specs.Trusted.{AllPromised, IsNotOpen, Trusted}
-use Rattle.escpos_link.specs.Ways.{IsKnown, OnWay, answered, answered_marks}
+use Rattle.escpos_link.specs.Ways.{IsKnown, answered_marks}
 use Rattle.escpos_link.proofs.AfterAnswers.{InWay, LateStands, StandsFor, turn_way}
 use Rattle.escpos_link.proofs.AfterHearing.{drop-nil, dropped, heard_line, heard_line_is}
-use Rattle.escpos_link.proofs.Promises.{fewer_for, in_back, in_front}
+use Rattle.escpos_link.proofs.Promises.{fewer_for, in_back}
 use Rattle.escpos_link.proofs.Promising.{receipts_join}
-use Rattle.escpos_link.proofs.Turning.{Goes, Heard, OfAnswers, Turned, Turner, heard_in_turn, no_bytes}
+use Rattle.escpos_link.proofs.Turning.{Goes, Heard, OfAnswers, Turner, heard_in_turn, no_bytes}
 use Rattle.escpos_link.proofs.WayKept.{Laws, marks_join}
 
 -- Bytes are heard in one way.

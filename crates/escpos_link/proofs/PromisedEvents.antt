@@ -1,5 +1,5 @@
 -- A promise stays after each event of a line that can be trusted, and after each refusal; and a late answer is one for which it is kept.
-use Rattle.std.proofs.Common.{◌≡◌, ◌≢◌, ◌<◌, ◌≤◌, inl, inr, ℕ, List, [], ◌∷◌, ◌++◌, length, take, drop, refl, sym, ◌∙◌, ap, subst, append-nil, append_assoc, take-append-drop, IsTrue}
+use Rattle.std.proofs.Common.{◌≡◌, ◌≢◌, ◌<◌, ◌≤◌, inl, inr, ℕ, List, [], ◌∷◌, ◌++◌, length, take, drop, refl, sym, ◌∙◌, ap, subst, append-nil, append_assoc, IsTrue}
 use Rattle.std.specs.Prelude.{None, option_to_list}
 use Rattle.std.specs.List.{AllByRecursion}
 use Rattle.escpos_command.specs.declared.answer.Answer.{Answer}
@@ -16,7 +16,7 @@ use Rattle.escpos_printer.specs.declared.printer.FeedStop.TheVariants as stop
 use Rattle.escpos_printer.specs.Feeds.{Feeds, PrinterView, Took}
 use Rattle.escpos_host.specs.declared.host.HostEvent.{HostEvent}
 use Rattle.escpos_host.specs.declared.host.HostEvent.TheVariants as heard
-use Rattle.escpos_host.specs.Heard.{EndsLink, HearsAll, HearsInTurn, IsHeard, Turns, last_of}
+use Rattle.escpos_host.specs.Heard.{HearsAll, HearsInTurn, IsHeard, Turns, last_of}
 use Rattle.escpos_host.specs.Machine.{HasMark, HostView, InFlight, IsSound, Phase, Down, Opening, Open, ask_reports, asked, gone_down, linked, linked_reporting, nudged, reports_asked, submitted, receipts_of}
 use Rattle.escpos_link.specs.declared.event.Event.{Event}
 use Rattle.escpos_link.specs.declared.event.Event.TheVariants as event
@@ -28,17 +28,16 @@ use Rattle.escpos_link.specs.EventTable.{After, HandsOver, Leaves, Restarted, an
 use Rattle.escpos_link.specs.Line.{IsLine, LineView}
 use Rattle.escpos_link.specs.Promised.{IsIn, IsOther, PromisedBy, PromisedIn}
 use Rattle.escpos_link.specs.Promising.{PutsOther, with_records}
-use Rattle.escpos_link.specs.Trusted.{AllPromised, IsFitting, IsNotOpen, Trusted}
-use Rattle.escpos_link.specs.Ways.{FreshOf, IsKnown, IsRest, Known, OnWay, answered, answered_marks, closing_marks, flight_of}
+use Rattle.escpos_link.specs.Trusted.{AllPromised, IsFitting, Trusted}
+use Rattle.escpos_link.specs.Ways.{FreshOf, IsRest, Known, OnWay, answered, answered_marks, closing_marks, flight_of}
 use Rattle.escpos_link.specs.Stands.{Stands}
 use Rattle.escpos_link.specs.Wire.{WireView, given_up, line_of, with_link}
 use Rattle.escpos_link.proofs.Aligning.{marks_append}
-use Rattle.escpos_link.proofs.Hearing.{Staying, all_on, answered_promised, goes_first, same_answers, staying}
+use Rattle.escpos_link.proofs.Hearing.{Staying, answered_promised, goes_first, same_answers, staying}
 use Rattle.escpos_link.proofs.Feeding.{Read}
 use Rattle.escpos_link.proofs.Leaving.{items_are}
 use Rattle.escpos_link.proofs.Links.{mark_fresh, request_fresh}
 use Rattle.escpos_link.proofs.Promises.{fed_for, fewer_for, idle_for, in_back, in_front, in_join, leaves_for, moved_for, nudged_for, off_for, opened_for}
-use Rattle.escpos_link.proofs.Numbers.{OfNumbers, known_one}
 use Rattle.escpos_link.proofs.Promising.{flight_known, in_flight_for, made_for, put_open_for, receipts_join, recorded_way}
 use Rattle.escpos_link.proofs.WayKept.{changed_marks, Laws, are_join, grown, marks_join, none_heard, stopped, width_is}
 use Rattle.escpos_link.proofs.Turning.{Goes, Holding, OfAnswers, by_one, one_heard}

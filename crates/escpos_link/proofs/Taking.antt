@@ -6,10 +6,9 @@ use Rattle.escpos_paper.specs.declared.item.Item.{Item}
 use Rattle.escpos_paper.specs.Page.{Sheet}
 use Rattle.escpos_paper.specs.Printed.{printed}
 use Rattle.escpos_host.specs.Machine.{HostView, InFlight, handed_out}
-use Rattle.escpos_link.specs.Line.{LineView}
 use Rattle.escpos_link.specs.Promised.{GivenUpFor, LiveFor, NewestFor, PromisedBy, PromisedIn, ServedFor, StandsNext}
 use Rattle.escpos_link.specs.Stands.{Stands}
-use Rattle.escpos_link.specs.Trusted.{AllPromised, IsNotOpen, IsTrusted, StillTrusted}
+use Rattle.escpos_link.specs.Trusted.{AllPromised, IsTrusted, StillTrusted}
 use Rattle.escpos_link.specs.Ways.{IsKnown, answered_marks}
 use Rattle.escpos_link.specs.Wire.{WireView, line_of}
 

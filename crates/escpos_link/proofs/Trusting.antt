@@ -1,14 +1,12 @@
 -- What lets records be trusted holds for a line after each event, and after each refusal; and no answer ends the host's
 -- link.
-use Rattle.std.proofs.Common.{◌≡◌, ◌≢◌, ◌<◌, ◌≤◌, ◌+◌, inl, inr, ℕ, List, [], ◌∷◌, ◌++◌, take, refl, sym, ◌∙◌, ap, subst, arith, None}
-use Rattle.escpos_command.specs.declared.command.Command.{Command}
+use Rattle.std.proofs.Common.{◌≡◌, ◌≢◌, ◌<◌, ◌≤◌, ℕ, List, [], refl, sym, ◌∙◌, ap, subst, arith, None}
 use Rattle.escpos_command.specs.Digits.{mark_count, mark_of}
 use Rattle.escpos_paper.specs.Page.{SheetIs}
-use Rattle.escpos_printer.specs.Feeds.{PrinterView}
 use Rattle.escpos_host.specs.declared.host.HostEvent.{HostEvent}
 use Rattle.escpos_host.specs.declared.host.HostEvent.TheVariants as heard
 use Rattle.escpos_host.specs.Heard.{EndsLink, last_of}
-use Rattle.escpos_host.specs.Machine.{HasMark, HostView, InFlight, IsOpening, IsSound, Phase, Down, Opening, Open, gone_down, linked, linked_reporting, unanswered}
+use Rattle.escpos_host.specs.Machine.{HostView, InFlight, IsSound, Phase, Down, Opening, Open, gone_down, unanswered}
 use Rattle.escpos_link.specs.declared.event.Event.{Event}
 use Rattle.escpos_link.specs.declared.event.Event.TheVariants as event
 use Rattle.escpos_link.specs.declared.event.Note.{Note}
@@ -19,12 +17,11 @@ use Rattle.escpos_link.specs.EventTable.{After, HandsOver, Leaves, delivered, hu
 use Rattle.escpos_printer.specs.declared.printer.FeedStop.{FeedStop}
 use Rattle.escpos_printer.specs.declared.printer.FeedStop.TheVariants as stop
 use Rattle.escpos_link.specs.Line.{IsLine, LineView}
-use Rattle.escpos_link.specs.Promised.{PromisedIn}
 use Rattle.escpos_link.specs.Promising.{PutsOther}
 use Rattle.escpos_link.specs.Resumed.{resumed}
 use Rattle.escpos_link.specs.Stands.{Stands}
 use Rattle.escpos_link.specs.Trusted.{AllPromised, IsFitting, IsNotOpen, IsTrusted, StillTrusted, Trusted}
-use Rattle.escpos_link.specs.Ways.{IsKnown, OnWay}
+use Rattle.escpos_link.specs.Ways.{IsKnown}
 use Rattle.escpos_link.proofs.Claiming.{OfPaper}
 use Rattle.escpos_link.proofs.Hearing.{all_on, answered_trusted}
 use Rattle.escpos_link.proofs.Numbers.{OfNumbers, known_one}

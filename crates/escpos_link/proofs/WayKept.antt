@@ -21,16 +21,14 @@ use Rattle.escpos_printer.specs.Feeds.{Feeds, PrinterView, Took, left_half}
 use Rattle.escpos_printer.specs.Blocks.{others, with_one_block}
 use Rattle.escpos_printer.specs.Replies.{after_change, condition_block, is_change, replies, reply}
 use Rattle.escpos_host.specs.declared.host.HostEvent.{HostEvent}
-use Rattle.escpos_host.specs.declared.host.HostEvent.TheVariants as heard
-use Rattle.escpos_host.specs.Heard.{EndsLink, HearsAll, last_of}
+use Rattle.escpos_host.specs.Heard.{HearsAll, last_of}
 use Rattle.escpos_host.specs.Machine.{HasMark, HostView, InFlight, IsOpening, IsSound, Phase, Down, Opening, Open, ask_reports, asked, gone_down, linked, linked_reporting, nudged, reports_asked, submitted}
 use Rattle.escpos_link.specs.declared.event.Event.{Event}
 use Rattle.escpos_link.specs.declared.event.Event.TheVariants as event
 use Rattle.escpos_link.specs.declared.event.Handed.{Handed}
 use Rattle.escpos_link.specs.declared.event.Handed.TheVariants as handed
 use Rattle.escpos_link.specs.declared.event.Note.{Note}
-use Rattle.escpos_link.specs.declared.event.Note.TheVariants as note
-use Rattle.escpos_link.specs.EventTable.{After, HandsOver, Leaves, Restarted, answers_left, delivered, ended_fed, first_link, heard_to, hung_up, left_by, live_fed, moved, off_link, on_its_way, restarted, told_at, with_host, with_new_link, with_printer, without_first}
+use Rattle.escpos_link.specs.EventTable.{After, HandsOver, Restarted, answers_left, delivered, ended_fed, first_link, heard_to, hung_up, left_by, live_fed, moved, off_link, on_its_way, restarted, with_host, with_new_link, with_printer, without_first}
 use Rattle.escpos_link.specs.Line.{IsLine, LineView}
 use Rattle.escpos_link.specs.Resumed.{resumed, resumed_host}
 use Rattle.escpos_link.specs.Stands.{Stands}

@@ -1,8 +1,8 @@
 -- The receipts up to the one whose closing mark it is are recorded, and any other mark is ignored.
-use Rattle.std.proofs.Common.{◌≡◌, ◌∙◌, ◌+◌, ◌-◌, ◌≤◌, ◌<◌, length, drop, refl, sym, ap, subst, arith}
+use Rattle.std.proofs.Common.{◌≡◌, ◌∙◌, ◌+◌, ◌-◌, drop, refl, sym, ap, subst, arith}
 use Rattle.escpos_host.specs.declared.host.Stage.TheVariants as stage
 use Rattle.escpos_host.specs.Heard.{IgnoresMark, RecordsUpTo}
-use Rattle.escpos_host.specs.Kept.{HasIdAmong, IsConsistent, IsPlaceOf, pairs, view_of}
+use Rattle.escpos_host.specs.Kept.{HasIdAmong, IsConsistent, IsPlaceOf, view_of}
 use Rattle.escpos_host.specs.Machine.{HostView}
 use Rattle.escpos_host.proofs.MarkAnswers.{fits_flight_recorded, flight_recorded, is_other, open_phased, stage_open}
 use Rattle.escpos_host.proofs.host.Host.hear_closing.Goals as goal

@@ -1,6 +1,5 @@
 -- An opening mark opens the link.
-use Rattle.std.proofs.Common.{◌≡◌, ◌∙◌, ap, subst, sym, refl}
-use Rattle.escpos_host.specs.declared.host.Stage.TheVariants as stage
+use Rattle.std.proofs.Common.{◌∙◌, ap, subst, sym, refl}
 use Rattle.escpos_host.specs.Heard.{IsOpeningMark, opened}
 use Rattle.escpos_host.specs.Kept.{view_of}
 use Rattle.escpos_host.specs.Machine.{HostView}

@@ -1,5 +1,5 @@
 -- Of those that are left the receipts up to the one whose closing mark it is are recorded, and any other mark is told.
-use Rattle.std.proofs.Common.{◌≡◌, ◌∙◌, ◌+◌, ◌-◌, ◌≤◌, ◌<◌, List, length, drop, refl, sym, ap, subst, arith}
+use Rattle.std.proofs.Common.{◌≡◌, ◌∙◌, ◌+◌, ◌-◌, List, length, drop, refl, sym, ap, subst, arith}
 use Rattle.escpos_host.specs.declared.host.Stage.TheVariants as stage
 use Rattle.escpos_host.specs.Heard.{IsClosing, IsOpeningMark, RecordsUpTo}
 use Rattle.escpos_host.specs.Kept.{HasIdAmong, IsConsistent, IsPlaceOf, view_of}

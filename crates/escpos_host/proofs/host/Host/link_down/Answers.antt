@@ -1,5 +1,5 @@
 -- What is cleared fits any receipts.
-use Rattle.std.proofs.Common.{◌≡◌, ◌≢◌, ◌∙◌, ◌+◌, ℕ, List, [], length, take, sym, ap, subst}
+use Rattle.std.proofs.Common.{◌≡◌, ◌∙◌, ◌+◌, ℕ, List, [], take, sym, ap, subst}
 use Rattle.escpos_command.specs.declared.command.Command.{Command}
 use Rattle.escpos_host.specs.declared.host.Host.TheInside.{Inside}
 use Rattle.escpos_host.specs.declared.host.Stage.TheVariants as stage

@@ -1,5 +1,5 @@
 -- With no link nothing is to be put out.
-use Rattle.std.proofs.Common.{◌++◌, ◌∙◌, refl, sym, ap, subst}
+use Rattle.std.proofs.Common.{◌++◌, ◌∙◌, sym, ap, subst}
 use Rattle.escpos_host.specs.declared.host.Stage.TheVariants as stage
 use Rattle.escpos_command.specs.CommandTable.{spell}
 use Rattle.escpos_host.specs.Out.{unsent}

@@ -1,5 +1,5 @@
 -- Where a closing mark is still to be answered, a receipt is in flight.
-use Rattle.std.proofs.Common.{◌≡◌, ◌∙◌, length, drop, length-drop, sym, ap, subst, arith}
+use Rattle.std.proofs.Common.{◌∙◌, drop, sym, ap, subst}
 use Rattle.escpos_host.specs.declared.host.Stage.TheVariants as stage
 use Rattle.escpos_host.specs.Kept.{IsConsistent, phase_of}
 use Rattle.escpos_host.specs.Machine.{HostView, state_of}

@@ -1,5 +1,5 @@
 -- The receipt and its closing mark are put out, after what was there, and the receipt stands before those that are left.
-use Rattle.std.proofs.Common.{◌≡◌, ◌∙◌, ◌+◌, ◌≤◌, ◌<◌, [], ◌∷◌, ◌++◌, length, drop, refl, sym, ap, subst, arith, Ok, Err}
+use Rattle.std.proofs.Common.{◌≡◌, ◌∙◌, ◌+◌, ◌≤◌, ◌<◌, [], ◌∷◌, ◌++◌, length, drop, refl, sym, ap, subst, arith}
 use Rattle.std.specs.List.{insert, remove}
 use Rattle.escpos_command.specs.Digits.{mark_count}
 use Rattle.escpos_command.specs.CommandTable.{spell}

@@ -1,8 +1,6 @@
 -- The first receipt of those that are left is gone, and the number of its closing mark.
-use Rattle.std.proofs.Common.{◌≡◌, ◌≢◌, ◌∙◌, ◌+◌, ◌<◌, ◌==◌, false, length, sym, ap, subst, arith}
+use Rattle.std.proofs.Common.{◌∙◌, ◌+◌, sym, ap, arith}
 use Rattle.std.specs.List.{remove}
-use Rattle.std.proofs.lemmas.Bool.Decides.{nat_tests}
-use Rattle.escpos_host.specs.Kept.{view_of}
 use Rattle.escpos_host.specs.Machine.{handed_out}
 use Rattle.escpos_host.proofs.Views.{fits_without_first, some_of, without_first}
 use Rattle.escpos_host.proofs.host.Host.take_left.Goals as goal
