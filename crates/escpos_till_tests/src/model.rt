@@ -299,6 +299,39 @@ fn cancelled(rt: HostRuntime) {
     prints(&rt, &till, ONCE);
 }
 
+// A crash comes between a key and its receipt: the key is void, and comes again. Then it is known, and nothing is to be kept.
+#[test]
+fn keyed(rt: HostRuntime) {
+    let (alloc, first) = (rt.alloc(), number(&rt, 1));
+    let mut till = till_at_last(&rt, alloc);
+    all_happen(
+        &rt,
+        alloc,
+        &mut till,
+        &[
+            Plain::Start,
+            Plain::Keyed,
+            Plain::Keep,
+            Plain::Crash,
+            Plain::Start,
+        ],
+    );
+    stand(&rt, &till, &[]);
+    all_happen(
+        &rt,
+        alloc,
+        &mut till,
+        &[Plain::Keyed, Plain::Keep, Plain::Keep, Plain::Tell],
+    );
+    was_told(&rt, &till, TillNote::Queued(first));
+    all_happen(&rt, alloc, &mut till, &[Plain::Keyed]);
+    is_refused(&rt, alloc, &mut till, Plain::Keep, NotPossible::NotAsked);
+    all_happen(&rt, alloc, &mut till, &[Plain::Tell]);
+    was_told(&rt, &till, TillNote::Queued(first));
+    stand(&rt, &till, &[ReceiptState::Waiting { tried: 0 }]);
+    assert!(&rt; till.entries().len() == 3);
+}
+
 fn is_refused(rt: &impl Abort, alloc: Global, till: &mut Till, plain: Plain, why: NotPossible) {
     assert!(rt; happens(rt, alloc, till, plain) == Err(why));
 }

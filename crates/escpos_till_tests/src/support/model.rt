@@ -1,6 +1,6 @@
 //! What happens to a till in the world where everything may fail.
 
-use crate::support::tills::number;
+use crate::support::tills::{key, number};
 use escpos_command::LineWidth;
 use escpos_host::SendFault;
 use escpos_link::Event;
@@ -24,6 +24,8 @@ pub const ONLINE: Condition = Condition {
 pub enum Plain {
     Start,
     Queue,
+    // with a key
+    Keyed,
     Raise,
     Cancel,
     Deliver,
@@ -119,6 +121,10 @@ pub fn happening(rt: &impl Abort, alloc: Global, plain: Plain) -> Happening {
         Plain::Queue => Happening::Queue {
             receipt: content(rt, alloc),
             key: None,
+        },
+        Plain::Keyed => Happening::Queue {
+            receipt: content(rt, alloc),
+            key: Some(key(rt, b"sale-7")),
         },
         Plain::Raise => Happening::Raise(5),
         Plain::Cancel => Happening::Cancel(number(rt, 1)),
