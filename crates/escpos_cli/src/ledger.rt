@@ -9,12 +9,10 @@ use escpos_store::SqliteStore;
 use escpos_till::NoStore;
 use escpos_till_jobs::{LedgerPath, Ledgers, SharedStore};
 use sqlite::{FileFrom, FileStore, Unknown};
-use std::fs;
 use std::fs::{File, OpenOptions, TryLockError};
-use std::io;
 use std::io::ErrorKind;
-use std::thread;
 use std::time::Duration;
+use std::{fs, io, thread};
 
 // So often it is tried to open a ledger that is in use, and so long it is waited between: 5 seconds.
 const TURNS: u32 = 2_500;
@@ -114,11 +112,7 @@ impl<'r> Ledgers<SharedFileStore<'r>> for SharedFiles<'r> {
     fn open(&mut self, path: &LedgerPath<'_>) -> Result<SharedFileStore<'r>, NoStore> {
         let line = line_of(self.rt, path.text())?;
         let files = LedgerFiles::new(self.rt);
-        SharedStore::open(
-            self.rt.alloc(),
-            DeliveredFiles { files, _line: line },
-            path,
-        )
+        SharedStore::open(self.rt.alloc(), DeliveredFiles { files, _line: line }, path)
     }
 
     // The ledger is closed where it is open, and then its line.

@@ -13,8 +13,8 @@ ghost use Rattle.escpos_till.specs.Machine.{Drops, most_entries};
 
 use crate::book::{Book, MOST_ENTRIES, NoBook};
 use crate::entry::Entry;
-use crate::memory_store::copies;
 use crate::machine::{Due, MARK_COUNT, Stage, Then, TillNote, marks_taken};
+use crate::memory_store::copies;
 use crate::number::ReceiptNumber;
 use crate::state::ReceiptState;
 use crate::store::StoreFault;
@@ -26,10 +26,8 @@ fn is_others(entry: &Entry) -> bool
     ensures { IsTrue result ↔ IsOthers entry.now }
 {
     match entry {
-        Entry::Queued { .. }
-        | Entry::Raised { .. }
-        | Entry::Cancelled { .. }
-        | Entry::Key { .. } => true,
+        Entry::Queued { .. } | Entry::Raised { .. } | Entry::Cancelled { .. } | Entry::Key { .. } =>
+            true,
         Entry::Tried { .. } | Entry::Recorded { .. } => false,
     }
 }

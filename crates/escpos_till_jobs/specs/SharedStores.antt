@@ -1,7 +1,6 @@
 -- A store that lets go of its ledger between entries.
 use Rattle.std.specs.Prelude.{Bool, true, false, ◌≡◌, Option, Some, None, List}
 use Rattle.std.proofs.Common.{sym, ◌∙◌}
-
 use Rattle.escpos_till.specs.declared.entry.Entry.{Entry}
 
 -- The store below that is open, if one is; whether a call on it failed, so that it isn't known what it holds; and the entries that are known.

@@ -70,7 +70,13 @@ fn the_next_number_is_raised_meanwhile(rt: HostRuntime) {
 #[test]
 fn the_receipt_is_cancelled_meanwhile(rt: HostRuntime) {
     let before = one_waits(&rt, rt.alloc(), (2, &[Plain::Cancelled(1)]));
-    delivers(&rt, rt.alloc(), before, FIRST, (("cancelled 1\n", Status::Good), 2));
+    delivers(
+        &rt,
+        rt.alloc(),
+        before,
+        FIRST,
+        (("cancelled 1\n", Status::Good), 2),
+    );
     let meanwhile = one_waits(&rt, rt.alloc(), (3, &[Plain::Cancelled(1)]));
     let told = ("cancelled 1 tried 1\n", Status::Good);
     delivers(&rt, rt.alloc(), meanwhile, FIRST, (told, 3));

@@ -58,10 +58,10 @@ kept_on (then.Take content) key kept m mid e (book, ledger, follows, is) (notes,
     (notes kept book ledger follows, ledger-snoc kept e ledger follows, tt, (kept, ap (λ x. kept ++ x ∷ []) is), (content, refl))
 kept_on then.Queued key kept m mid e (book, ledger, follows, (before, ends), (content, is)) (notes, (number, count, host, at)) =
     takes_as key (kept ++ e ∷ []) mid.book mid.stage _ at (λ k same.
-        let known : IsBookOf mid.book (kept ++ e ∷ []) = notes kept book ledger follows in
-        let told_so : number ≡ k = cc same in
-        let all : k ≡ length (states (kept ++ entry.Queued content ∷ [])) = sym told_so ∙ count ∙ ap length known.states ∙ ap (λ x. length (states (kept ++ x ∷ []))) is in
-        subst (λ x. HasKey (kept ++ x ∷ []) key k) (sym is) (has_it kept before key content k ends all))
+    let known : IsBookOf mid.book (kept ++ e ∷ []) = notes kept book ledger follows in
+    let told_so : number ≡ k = cc same in
+    let all : k ≡ length (states (kept ++ entry.Queued content ∷ [])) = sym told_so ∙ count ∙ ap length known.states ∙ ap (λ x. length (states (kept ++ x ∷ []))) is in
+    subst (λ x. HasKey (kept ++ x ∷ []) key k) (sym is) (has_it kept before key content k ends all))
 kept_on then.Raised key kept m mid e takes so = absurd takes
 kept_on (then.Cancelled number tried) key kept m mid e takes so = absurd takes
 kept_on (then.Send due) key kept m mid e takes so = absurd takes
@@ -131,8 +131,8 @@ begins_keyed : (key : List ℕ) (content : Content) (kept : List Entry) (m asked
 begins_keyed key content kept m asked book ledger queues = elim queues.goes [
   | inl (number, known, is) ↦
       takes_as key kept asked.book asked.stage _ is (λ k same.
-          let told_so : number ≡ k = cc same in
-          subst (λ n. HasKey kept key n) told_so (known kept book))
+      let told_so : number ≡ k = cc same in
+      subst (λ n. HasKey kept key n) told_so (known kept book))
   | inr (new, is) ↦ takes_as key kept asked.book asked.stage _ is (queues.book kept book, ledger, new kept book, refl)
 ]
 

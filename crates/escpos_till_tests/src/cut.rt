@@ -14,7 +14,12 @@ const MOST_CALLS: u64 = 80;
 const NEXT: u32 = 7;
 
 fn raises(rt: &impl Abort, store: &mut Filed) {
-    assert!(rt; matches!(store.append(&Entry::Raised { next: NEXT }), Ok(Appended::Done)));
+    assert!(rt;
+        matches!(
+            store.append(&Entry::Raised { next: NEXT }),
+            Ok(Appended::Done)
+        )
+    );
 }
 
 // How many entries the store has. They raise the next number to 7.

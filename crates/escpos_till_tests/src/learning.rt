@@ -3,9 +3,7 @@
 use crate::support::tills::{bytes_at_last, key, machine_of, number, receipt};
 use escpos_host::{HostError, SendFault};
 use escpos_test_receipts::S;
-use escpos_till::{
-    Action, Content, Entry, StoreFault, TillMachine, TillNote, others_since,
-};
+use escpos_till::{Action, Content, Entry, StoreFault, TillMachine, TillNote, others_since};
 use std::alloc::Global;
 use std::process::Abort;
 

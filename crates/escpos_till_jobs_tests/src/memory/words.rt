@@ -14,9 +14,7 @@ use escpos_receipt::{JsonError, ReceiptOptions};
 use escpos_till::{
     Entry, Failure, MemoryStore, NoStore, ReceiptContent, ReceiptKey, ReceiptState, TillMachine,
 };
-use escpos_till_jobs::{
-    LedgerPath, NoLine, TillTask, Word, open_machine, read_content,
-};
+use escpos_till_jobs::{LedgerPath, NoLine, TillTask, Word, open_machine, read_content};
 use std::alloc::Global;
 use std::process::Abort;
 

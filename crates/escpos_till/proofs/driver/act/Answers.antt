@@ -22,8 +22,7 @@ returns-clause-turned g c = λ done. elim c.match-asks.branch [
       let others : List Entry = w.in-Ok-Others.others.items in
       let (e, next, is) = asked_to_keep m m.stage (action.Append w.in-Append.entry) w.in-Append.ensures tt in
       let DoneBy : List Entry → Surroundings g.row.S.Denot g.row.L.Denot → Type 0 = λ es a. Did g.S.Store.faithful g.S.Store.holds g.S.Store.leaves g.S.Store.says g.L.PrinterLine.did c.args.around.now (Learns es) a in
-      let learned = subst (λ v. Learned m.stage v m w.learned.new.self) w.deref.ensures.value w.learned.ensures.learned in
-      (
+      let learned = subst (λ v. Learned m.stage v m w.learned.new.self) w.deref.ensures.value w.learned.ensures.learned in (
         Learns others,
         λ said. said,
         (e, next, is, subst (Learned m.stage others m) (sym w.machine-is) learned),

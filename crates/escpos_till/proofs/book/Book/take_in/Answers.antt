@@ -29,8 +29,7 @@ loop-entry-preserved c = record {
       let (all, so, well) = c.loop-entry.invariant.so_far entries book ledger in
       let follows : MayFollow front c.entry-item.result = (c.if-not-may_follow.ensures front so).0 refl in
       let noted = c.note.ensures.notes front (c.reserve_try.ensures.same front (c.reserve.ensures.same front so)) well (subst (MayFollow front) (sym c.in-Ok.ensures) follows) in
-      let longer = longer_by_one entries c.args.more.now c.loop-entry.entry-index c.entry-item.result c.loop-entry-test.true c.entry-item.is in
-      (
+      let longer = longer_by_one entries c.args.more.now c.loop-entry.entry-index c.entry-item.result c.loop-entry-test.true c.entry-item.is in (
         follow_longer entries c.args.more.now c.loop-entry.entry-index c.entry-item.result c.loop-entry-test.true c.entry-item.is all follows,
         subst (IsBookOf c.note.new.self) longer (subst (λ (e : Entry). IsBookOf c.note.new.self (front ++ e ∷ [])) c.in-Ok.ensures noted),
         subst IsLedger longer (ledger-snoc front c.entry-item.result well follows),
