@@ -1,8 +1,9 @@
 //! A till with one printer: its ledger, and the machine that says what is to be done for it.
 //!
-//! `entry`, `key`, `state` and `waiting` have what a ledger says, `book` what a machine knows of it, and `store` where its entries are
-//! kept. `machine` is the till itself, over values alone, `talking` what it does with a printer on a link, and `learning` what it does with entries that others have added; `driver` does what it asks for, over the store and the line of
-//! `surroundings`.
+//! `entry`, `key`, `state` and `waiting` have what a ledger says, `keyed` which receipt has a key, `laws` the laws of keys, `book` what a
+//! machine knows of it, and `store` where its entries are kept. `machine` is the till itself, over values alone, `talking` what it does
+//! with a printer on a link, and `learning` what it does with entries that others have added; `driver` does what it asks for, over the
+//! store and the line of `surroundings`.
 #![tactic(auto)]
 
 mod book;

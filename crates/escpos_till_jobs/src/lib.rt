@@ -1,9 +1,11 @@
 //! What the words `queue`, `deliver`, `cancel` and `ledger` do with a till's ledger, over any store, line, source and sink.
 //!
 //! Each makes calls of a till's machine, has the driver of escpos_till do what it asks for, and prints what came of that.
-//! `opening` makes the machine of a store's ledger, or says why there is none. `queue` takes a receipt, `raw` reads one from a stream of bytes, `again` takes one once more, `deliver` sends those that
-//! wait, `cancel` takes one back that waits, and `listing` lists where each stands. `following` does what a machine asks for since a call, `outcome` has the lines, `link_line` the line to a printer, and `lines` makes it. `word` does one
-//! of these words with a store, `perform` with the ledger at a path, and `task` has what may be asked for. A ledger's file is left to the program.
+//! `opening` makes the machine of a store's ledger, or says why there is none. `queue` takes a receipt, `raw` reads one from a stream of
+//! bytes, `again` takes one once more, `deliver` sends those that wait, `cancel` takes one back that waits, and `listing` lists where each
+//! stands. `following` does what a machine asks for since a call, `outcome` has the lines, `link_line` the line to a printer, `watched` says
+//! whether that would be waited for, and `lines` makes it. `shared_store` lets go of a ledger meanwhile. `word` does one of these words with
+//! a store, `perform` with the ledger at a path, and `task` has what may be asked for. A ledger's file is left to the program.
 #![tactic(auto)]
 
 mod again;
