@@ -1,29 +1,26 @@
 -- What entries that others have added do to what a machine knows, and to what it was to keep.
-use Rattle.std.proofs.Common.{ℕ, zero, suc, true, false, ◌==◌, ◌≡◌, ◌+◌, ◌-◌, ◌<◌, ◌≤◌, ◌⊎◌, inl, inr, cond, max, Option, Some, None, List, [], ◌∷◌, ◌++◌, length, length-drop, take, drop, get_or, refl, sym, ◌∙◌, ap, subst, append-nil, append_assoc, length-append, arith}
-use Rattle.std.specs.List.{AllByRecursion, filter_map, position_from}
-use Rattle.std.specs.Option.{MatchOption}
+use Rattle.std.proofs.Common.{ℕ, zero, suc, true, false, ◌==◌, ◌≡◌, ◌+◌, ◌-◌, ◌<◌, ◌≤◌, ◌⊎◌, inl, inr, cond, Option, Some, None, List, [], ◌∷◌, ◌++◌, length, length-drop, take, drop, get_or, refl, sym, ◌∙◌, ap, subst, append-nil, append_assoc, length-append, arith}
+use Rattle.std.specs.List.{AllByRecursion, position_from}
 use Rattle.std.proofs.Math.Nat.{le-max_right}
 use Rattle.std.proofs.lemmas.List.{take-append-drop, take_all}
 use Rattle.std.proofs.lemmas.List.Elements.{filter_map-append}
 use Rattle.std.proofs.lemmas.List.Sums.{sum_by-append}
 use Rattle.escpos_host.specs.Machine.{HostView}
 use Rattle.escpos_till.specs.declared.book.Book.{Book}
-use Rattle.escpos_till.specs.declared.entry.Content.{Content}
 use Rattle.escpos_till.specs.declared.entry.Entry.{Entry}
 use Rattle.escpos_till.specs.declared.entry.Entry.TheVariants as entry
 use Rattle.escpos_till.specs.declared.entry.Entry.TheVariants.{Queued, Tried, Recorded, Raised, Cancelled}
 use Rattle.escpos_till.specs.declared.machine.Due.{Due}
 use Rattle.escpos_till.specs.declared.machine.Stage.{Stage}
-use Rattle.escpos_till.specs.declared.machine.Stage.TheVariants as stage
 use Rattle.escpos_till.specs.declared.machine.Then.{Then}
 use Rattle.escpos_till.specs.declared.machine.Then.TheVariants as then
 use Rattle.escpos_till.specs.declared.state.ReceiptState.{ReceiptState}
 use Rattle.escpos_till.specs.declared.state.ReceiptState.TheVariants as state
 use Rattle.escpos_till.specs.Book.{HasTryRoom, IsBookOf}
 use Rattle.escpos_till.specs.Delivers.{marks_taken}
-use Rattle.escpos_till.specs.Entries.{IsLedger, MayFollow, Waits, cancel_place_of, content_of, contents, is_try_of, next_free, place_of, record_of, recorded, state_by, state_of, taken, times_tried}
+use Rattle.escpos_till.specs.Entries.{IsLedger, MayFollow, Waits, cancel_place_of, content_of, contents, is_try_of, place_of, record_of, recorded, state_by, state_of, taken, times_tried}
 use Rattle.escpos_till.specs.Learning.{AreOthers, FollowAll, IsOthers, Revises, StandsIn, WaitsOrCancelled}
-use Rattle.escpos_till.specs.Machine.{Fits, Suits, most_entries, printed}
+use Rattle.escpos_till.specs.Machine.{Fits, Suits, most_entries}
 use Rattle.escpos_till.proofs.EntryLemmas.{is_other, ledger-snoc, length-taken, one_longer, state_waits}
 use Rattle.escpos_till.proofs.MachineLemmas.{fits_printed}
 

@@ -1,19 +1,16 @@
 -- What holds of every world holds after others have added entries to its ledger, and its machine has learned that.
-use Rattle.std.proofs.Common.{ℕ, zero, suc, true, false, ◌==◌, ◌≡◌, ◌≢◌, ◌+◌, ◌<◌, ◌≤◌, ◌⊎◌, inl, inr, cond, Option, Some, None, List, [], ◌∷◌, ◌++◌, length, refl, sym, ◌∙◌, ap, subst, append-nil, append_assoc, length-append, arith}
+use Rattle.std.proofs.Common.{ℕ, zero, suc, true, false, ◌==◌, ◌≡◌, ◌+◌, ◌<◌, ◌≤◌, ◌⊎◌, inl, inr, cond, Option, Some, None, List, [], ◌∷◌, ◌++◌, length, refl, sym, ◌∙◌, ap, subst, append-nil, append_assoc, arith}
 use Rattle.std.specs.Prelude.{Bool}
 use Rattle.std.specs.List.{AllByRecursion, position_from}
 use Rattle.std.proofs.Math.Nat.{le-max_right}
-use Rattle.escpos_command.specs.declared.command.Command.{Command}
 use Rattle.escpos_command.specs.Digits.{mark_count}
 use Rattle.escpos_host.specs.Earlier.{with_earlier}
-use Rattle.escpos_host.specs.Machine.{HostView, Down, IsSound}
+use Rattle.escpos_host.specs.Machine.{HostView, IsSound}
 use Rattle.escpos_link.specs.Wire.{WireView, line_of}
 use Rattle.escpos_till.specs.declared.book.Book.{Book}
-use Rattle.escpos_till.specs.declared.entry.Content.{Content}
 use Rattle.escpos_till.specs.declared.entry.Entry.{Entry}
 use Rattle.escpos_till.specs.declared.entry.Entry.TheVariants as entry
 use Rattle.escpos_till.specs.declared.machine.Due.{Due}
-use Rattle.escpos_till.specs.declared.machine.Stage.{Stage}
 use Rattle.escpos_till.specs.declared.machine.Stage.TheVariants as stage
 use Rattle.escpos_till.specs.declared.machine.Then.{Then}
 use Rattle.escpos_till.specs.declared.machine.Then.TheVariants as then
@@ -23,16 +20,16 @@ use Rattle.escpos_till.specs.declared.state.ReceiptState.TheVariants as state
 use Rattle.escpos_till.specs.declared.store.StoreFault.{StoreFault}
 use Rattle.escpos_till.specs.Book.{IsBookOf}
 use Rattle.escpos_till.specs.Delivers.{marks_taken}
-use Rattle.escpos_till.specs.Entries.{IsLedger, MayFollow, Waits, cancel_place_of, cancelled, next_free, place_in, place_of, record_of, recorded, state_by, state_of, taken, times_tried}
-use Rattle.escpos_till.specs.Learning.{AreOthers, FailsToLearn, FollowAll, IsOthers, LearnsAll, Revises}
-use Rattle.escpos_till.specs.Machine.{Drops, MachineView, lost}
+use Rattle.escpos_till.specs.Entries.{MayFollow, Waits, cancel_place_of, cancelled, next_free, place_in, place_of, record_of, state_by, state_of, taken, times_tried}
+use Rattle.escpos_till.specs.Learning.{FailsToLearn, FollowAll, IsOthers, LearnsAll, Revises}
+use Rattle.escpos_till.specs.Machine.{Drops, MachineView}
 use Rattle.escpos_till.specs.Tries.{tries}
-use Rattle.escpos_till.proofs.LearningLemmas.{others_recorded, others_tried, taken_stay}
+use Rattle.escpos_till.proofs.LearningLemmas.{others_recorded, others_tried}
 use Rattle.escpos_till_model.specs.Kept.{Hand}
 use Rattle.escpos_till_model.specs.Known.{Accounted, BookMayLag, Holds, IsToKeep, IsToSend, IsWorld}
 use Rattle.escpos_till_model.specs.Late.{HasJustBegun}
 use Rattle.escpos_till_model.specs.Receipts.{Among}
-use Rattle.escpos_till_model.specs.World.{IsSo, Learns, Wired, World, running}
+use Rattle.escpos_till_model.specs.World.{IsSo, Learns, Wired, World}
 use Rattle.escpos_till_model.proofs.Accounts.{place_given}
 use Rattle.escpos_till_model.proofs.EntryFacts.{cancelled_append, receipt_of_grows}
 use Rattle.escpos_till_model.proofs.LinesKept.{LineLaws, Right, same_wire, drops_right}

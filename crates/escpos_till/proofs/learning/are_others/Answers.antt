@@ -1,9 +1,9 @@
 -- One after another.
-use Rattle.std.proofs.Common.{◌≡◌, true, false, refl, sym, subst}
+use Rattle.std.proofs.Common.{refl, subst}
 use Rattle.std.specs.List.{AllByRecursion}
 use Rattle.std.proofs.lemmas.List.{take_all}
 use Rattle.escpos_till.specs.Learning.{IsOthers}
-use Rattle.escpos_till.proofs.LearningLemmas.{other_at, others_longer}
+use Rattle.escpos_till.proofs.LearningLemmas.{others_longer}
 use Rattle.escpos_till.proofs.learning.are_others.Goals as goal
 
 pub loop-entry-preserved : goal.loop-entry-preserved

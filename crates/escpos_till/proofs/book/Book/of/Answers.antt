@@ -1,6 +1,5 @@
 -- All of them are taken into account, after none.
 use Rattle.std.proofs.Common.{◌≡◌, [], Err, ap}
-use Rattle.escpos_till.specs.declared.book.NoBook.{NoBook}
 use Rattle.escpos_till.specs.declared.book.NoBook.TheVariants as none
 use Rattle.escpos_till.proofs.EntryLemmas.{empty_ledger}
 use Rattle.escpos_till.proofs.LearningLemmas.{followed, ledger_of}

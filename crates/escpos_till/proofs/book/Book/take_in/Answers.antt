@@ -1,5 +1,5 @@
 -- Entry by entry.
-use Rattle.std.proofs.Common.{◌≡◌, ◌++◌, ◌∷◌, [], List, take, refl, sym, subst, append-nil, arith}
+use Rattle.std.proofs.Common.{◌++◌, ◌∷◌, [], List, take, refl, sym, subst, append-nil}
 use Rattle.std.proofs.lemmas.List.{take_all}
 use Rattle.escpos_till.specs.declared.entry.Entry.{Entry}
 use Rattle.escpos_till.specs.Book.{IsBookOf}
