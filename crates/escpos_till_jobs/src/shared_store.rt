@@ -3,7 +3,7 @@
 //! The ledger is opened for an entry, and closed again where its printer is waited for. Each time that it is opened, what is found must begin
 //! with what is known, and go on with entries that others may add; anything else is a failure. How a ledger is opened is left to `Ledgers`.
 
-ghost use Rattle.std.specs.Prelude.{◌≡◌, ◌⊎◌, ◌++◌, ◌∷◌, [], List, false, None, Ok, IfOk, IfSome, OnErr, OnOk};
+ghost use Rattle.std.specs.Prelude.{◌≡◌, ◌≢◌, ◌⊎◌, ◌++◌, ◌∷◌, [], List, false, None, Ok, IfOk, IfSome, OnErr, OnOk};
 ghost use Rattle.escpos_till.specs.declared.store.Appended.TheVariants as appended;
 ghost use Rattle.escpos_till.specs.declared.entry.Entry.{Entry};
 ghost use Rattle.escpos_till.specs.Learning.{AreOthers};
@@ -43,7 +43,8 @@ impl<F: Ledgers<S> + Drop, S: Store + Drop> SharedStore<F, S> {
     ///
     /// The errors are those of the opening; `Failed` and `Memory` also come where it can't be read.
     pub fn open(alloc: Global, ledgers: F, path: &LedgerPath<'_>) -> Result<Self, NoStore>
-        ensures { IfOk result (λ s. s.unsure ≡ false) }
+        ensures sure { IfOk result (λ s. s.unsure ≡ false) }
+        ensures is_open { IfOk result (λ s. s.held ≢ None) }
     {
         let mut ledgers = ledgers;
         let Ok(text) = path.text().to_owned(alloc) else {
@@ -84,6 +85,7 @@ impl<F: Ledgers<S> + Drop, S: Store + Drop> SharedStore<F, S> {
     fn take(&mut self) -> Result<Option<Vec<Entry>>, StoreFault>
         requires { self.old.unsure ≡ false }
         ensures sure { self.new.unsure ≡ false }
+        ensures is_open { OnOk result (self.new.held ≢ None) }
         ensures none { result ≡ Ok None → self.new.known ≡ self.old.known }
         ensures others { IfOk result (λ taken. IfSome taken (λ others. AreOthers self.old.known others.items × (self.new.known ≡ self.old.known ++ others.items))) }
         ensures stays { OnErr result ((self.new.known ≡ self.old.known) × (self.new.held ≡ None)) }
@@ -118,6 +120,7 @@ impl<F: Ledgers<S> + Drop, S: Store + Drop> SharedStore<F, S> {
         requires { self.old.unsure ≡ false }
         ensures added { OnOk result ((self.new.unsure ≡ false) × (self.new.known ≡ self.old.known ++ entry.now ∷ [])) }
         ensures done { IfOk result (λ it. it ≡ appended.Done) }
+        ensures is_open { OnOk result (self.new.held ≢ None) }
         ensures left { OnErr result ((left : List Entry) → SharedLeaves S.faithful S.holds S.leaves self.new left → (left ≡ self.old.known) ⊎ (left ≡ self.old.known ++ entry.now ∷ [])) }
     {
         let Ok(kept) = entry.copy(self.alloc) else {
