@@ -3,7 +3,7 @@
 //! The ledger is opened for an entry, and closed again where its printer is waited for. Each time that it is opened, what is found must begin
 //! with what is known, and go on with entries that others may add; anything else is a failure. How a ledger is opened is left to `Ledgers`.
 
-ghost use Rattle.std.specs.Prelude.{◌≡◌, ◌≢◌, ◌⊎◌, ◌++◌, ◌∷◌, [], List, false, None, Ok, IfOk, IfSome, OnErr, OnOk};
+ghost use Rattle.std.specs.Prelude.{◌≡◌, ◌≢◌, ◌↔◌, ◌⊎◌, ◌++◌, ◌∷◌, [], List, false, None, Ok, IfOk, IfSome, OnErr, OnOk};
 ghost use Rattle.escpos_till.specs.declared.store.Appended.TheVariants as appended;
 ghost use Rattle.escpos_till.specs.declared.entry.Entry.{Entry};
 ghost use Rattle.escpos_till.specs.Learning.{AreOthers};
@@ -87,7 +87,7 @@ impl<F: Ledgers<S> + Drop, S: Store + Drop> SharedStore<F, S> {
         ensures sure { self.new.unsure ≡ false }
         ensures is_open { OnOk result (self.new.held ≢ None) }
         ensures none { result ≡ Ok None → self.new.known ≡ self.old.known }
-        ensures others { IfOk result (λ taken. IfSome taken (λ others. AreOthers self.old.known others.items × (self.new.known ≡ self.old.known ++ others.items))) }
+        ensures others { IfOk result (λ taken. IfSome taken (λ others. (others.items ≢ []) × AreOthers self.old.known others.items × (self.new.known ≡ self.old.known ++ others.items))) }
         ensures stays { OnErr result ((self.new.known ≡ self.old.known) × (self.new.held ≡ None)) }
     {
         if self.held.is_some() {
@@ -187,7 +187,11 @@ impl<F: Ledgers<S> + Drop, S: Store + Drop> Store for SharedStore<F, S> {
         }
     }
 
-    fn let_go(&mut self) {
+    fn let_go(&mut self)
+        ensures was_faithful { Unit {0} → Unit {0} }
+        ensures held { Unit {0} → (entries : List Entry) → SharedHolds self.old entries → SharedHolds self.new entries }
+        ensures none { self.new.held ≡ None }
+    {
         self.end();
     }
 
@@ -210,7 +214,9 @@ impl<F: Ledgers<S> + Drop, S: Store + Drop> Store for SharedStore<F, S> {
 }
 
 // The same reason, where a store was to be opened.
-fn no_store(fault: StoreFault) -> NoStore {
+fn no_store(fault: StoreFault) -> NoStore
+    ensures { result ≡ NoStore.Memory ↔ fault ≡ StoreFault.Memory }
+{
     match fault {
         StoreFault::Failed => NoStore::Failed,
         StoreFault::Memory => NoStore::Memory,
@@ -218,7 +224,9 @@ fn no_store(fault: StoreFault) -> NoStore {
 }
 
 // The same reason, where a store is open no more.
-fn fault_of(why: NoStore) -> StoreFault {
+fn fault_of(why: NoStore) -> StoreFault
+    ensures { result ≡ StoreFault.Memory ↔ why ≡ NoStore.Memory }
+{
     match why {
         NoStore::Memory => StoreFault::Memory,
         NoStore::InUse | NoStore::NoLedger | NoStore::Failed => StoreFault::Failed,

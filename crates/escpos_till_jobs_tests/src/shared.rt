@@ -3,11 +3,11 @@
 //! The ledger is opened once at first, then for the entry that says that a receipt is tried, and then for the one that says that it is recorded.
 
 use crate::support::tills::{
-    BusyLedger, FAILED, Plain, Told, busy, delivery_to, is_told, printer_address, slow_line_over,
+    BusyLedger, FAILED, Plain, Told, busy, delivery_to, is_told, printer_address, watched_line_over,
 };
 use escpos_io::MemoryOut;
 use escpos_jobs::status::Status;
-use escpos_till::{Store, Surroundings};
+use escpos_till::{Entry, Failure, MemoryStore, Store, StoreFault, Surroundings};
 use escpos_till_jobs::{LedgerPath, SharedStore, Word, do_with};
 use std::alloc::Global;
 use std::process::Abort;
@@ -17,12 +17,23 @@ const FIRST: &[u8] = b"\x37\x220000\x00\x37\x220001\x00";
 
 const LATER: &[u8] = b"\x37\x220007\x00\x37\x220008\x00";
 
-// The receipts of a ledger are delivered over a line with these answers, and so many entries are there then.
+// The receipts of a ledger are delivered over a line with these answers that is waited for, and so many entries are there then.
 fn delivers(
     rt: &impl Abort,
     alloc: Global,
     ledger: BusyLedger,
     answers: &[u8],
+    told: (Told, usize),
+) {
+    delivers_over(rt, alloc, ledger, (answers, false), told);
+}
+
+// The same over a line that takes bytes at once, or not; its answers are waited for.
+fn delivers_over(
+    rt: &impl Abort,
+    alloc: Global,
+    ledger: BusyLedger,
+    (answers, takes_at_once): (&[u8], bool),
     (wanted, entries): (Told, usize),
 ) {
     let (mut sent, mut room) = ([0; 100], [0; 64]);
@@ -30,7 +41,7 @@ fn delivers(
     let Ok(store) = SharedStore::open(alloc, ledger, &LedgerPath::new("a")) else {
         panic!(rt; "no store");
     };
-    let line = slow_line_over(answers, &mut sent);
+    let line = watched_line_over(answers, &mut sent, (takes_at_once, false));
     let mut around = Surroundings { store, line };
     let word = Word::Deliver(delivery_to(printer_address()));
     let status = do_with(alloc, &mut around, word, &mut output);
@@ -54,6 +65,14 @@ fn a_receipt_is_taken_meanwhile(rt: HostRuntime) {
         let ledger = one_waits(&rt, rt.alloc(), (at, &[Plain::Taken]));
         delivers(&rt, rt.alloc(), ledger, FIRST, (told, 4));
     }
+}
+
+// So is one where the printer takes the bytes at once, and answers later.
+#[test]
+fn a_receipt_is_taken_before_the_answer(rt: HostRuntime) {
+    let told = ("recorded 1\nwaiting 2 no link\n", Status::Device);
+    let ledger = one_waits(&rt, rt.alloc(), (3, &[Plain::Taken]));
+    delivers_over(&rt, rt.alloc(), ledger, (FIRST, true), (told, 4));
 }
 
 // The next mark number is raised before the receipt is tried: its try has the numbers from there on. Or after that.
@@ -102,4 +121,20 @@ fn others_may_not(rt: HostRuntime) {
     let mut lost = one_waits(&rt, rt.alloc(), (2, &[]));
     lost.is_lost = true;
     delivers(&rt, rt.alloc(), lost, FIRST, (FAILED, 0));
+}
+
+// The ledger fails as an entry is to be kept. Then it isn't known what it has, and the store answers no more.
+#[test]
+fn an_entry_is_not_kept(rt: HostRuntime) {
+    let mut ledger = busy(&rt, rt.alloc(), &[], (0, &[]));
+    let failure = Failure::BeforeKeeping { calls: 0 };
+    ledger.store = Some(MemoryStore::new(rt.alloc(), Vec::new(rt.alloc()), failure));
+    let Ok(mut store) = SharedStore::open(rt.alloc(), ledger, &LedgerPath::new("a")) else {
+        panic!(&rt; "no store");
+    };
+    let raised = Entry::Raised { next: 9 };
+    let failed = Err(StoreFault::Failed);
+    assert!(&rt; store.append(&raised).map(|_| ()) == failed);
+    assert!(&rt; store.append(&raised).map(|_| ()) == failed);
+    assert!(&rt; store.entries(rt.alloc()).map(|_| ()) == failed);
 }

@@ -96,11 +96,12 @@ pub fn store_of(rt: &impl Abort, alloc: Global, entries: &[Plain]) -> MemoryStor
     MemoryStore::new(alloc, all, Failure::Never)
 }
 
-// Dials one link in memory, which is waited for, or isn't.
+// Dials one link in memory, which takes bytes at once and gives them soon, or is waited for.
 #[derive(Drop)]
 pub struct InMemory<'a> {
     link: Option<Link<MemoryIn<'a>, MemoryOut<'a>>>,
-    is_slow: bool,
+    takes_at_once: bool,
+    gives_soon: bool,
 }
 
 impl<'a> Dial<MemoryIn<'a>, MemoryOut<'a>> for InMemory<'a> {
@@ -127,11 +128,11 @@ impl<'a> Dial<MemoryIn<'a>, MemoryOut<'a>> for InMemory<'a> {
     }
 
     fn takes_at_once(&self) -> bool {
-        !self.is_slow
+        self.takes_at_once
     }
 
     fn gives_soon(&self) -> bool {
-        !self.is_slow
+        self.gives_soon
     }
 
     fn close(&mut self, link: Link<MemoryIn<'a>, MemoryOut<'a>>)
@@ -158,24 +159,21 @@ pub fn line_over<'a>(
     answers: &'a [u8],
     room: &'a mut [u8],
 ) -> LinkLine<MemoryIn<'a>, MemoryOut<'a>, InMemory<'a>> {
-    let reader = MemoryIn::new(answers, 7);
-    let writer = MemoryOut::new(room);
-    LinkLine::new(InMemory {
-        link: Some(Link { reader, writer }),
-        is_slow: false,
-    })
+    watched_line_over(answers, room, (true, true))
 }
 
-// The same to a printer that is waited for each time.
-pub fn slow_line_over<'a>(
+// The same to a printer that takes at once, or not, and gives soon, or not.
+pub fn watched_line_over<'a>(
     answers: &'a [u8],
     room: &'a mut [u8],
+    (takes_at_once, gives_soon): (bool, bool),
 ) -> LinkLine<MemoryIn<'a>, MemoryOut<'a>, InMemory<'a>> {
     let reader = MemoryIn::new(answers, 7);
     let writer = MemoryOut::new(room);
     LinkLine::new(InMemory {
         link: Some(Link { reader, writer }),
-        is_slow: true,
+        takes_at_once,
+        gives_soon,
     })
 }
 
@@ -228,7 +226,7 @@ pub fn performed<R: ByteIn, W: ByteOut>(
     }
 }
 
-// A ledger in memory to which others add entries: all of these, just before it is opened for the time with this number. Or it loses all that it
+// A ledger in memory, at the path a, to which others add entries: all of these, just before it is opened for the time with this number. Or it loses all that it
 // has then.
 #[derive(Drop)]
 pub struct BusyLedger {
@@ -265,7 +263,10 @@ impl Ledgers<MemoryStore> for BusyLedger {
     ghost closed = { λ old store new. Unit {0} };
 
     // Until it is closed, it is in use.
-    fn open(&mut self, _path: &LedgerPath<'_>) -> Result<MemoryStore, NoStore> {
+    fn open(&mut self, path: &LedgerPath<'_>) -> Result<MemoryStore, NoStore> {
+        if path.text() != "a" {
+            return Err(NoStore::NoLedger);
+        }
         self.opened = self.opened.saturating_add(1);
         let Some(mut store) = self.store.take() else {
             return Err(NoStore::InUse);
