@@ -81,7 +81,7 @@ enum kolatennis_receipt {
 /* Why a host refuses a call. */
 enum kolatennis_host_reason {
     KOLATENNIS_HOST_NOT_READY = 201,      /* not in this state */
-    KOLATENNIS_HOST_MARKS_USED_UP = 202,  /* no number of a mark is left: there are 1,679,616 */
+    KOLATENNIS_HOST_MARKS_USED_UP = 202,  /* no number of a mark is left: 1,679,616 are out since the last one that was answered */
     KOLATENNIS_HOST_ALREADY_UP = 203,     /* there is a link */
     KOLATENNIS_HOST_IN_FLIGHT_FULL = 206, /* four receipts are in flight */
     KOLATENNIS_HOST_NO_KIND = 209         /* no such kind of status request */

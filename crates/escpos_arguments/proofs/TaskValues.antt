@@ -94,11 +94,11 @@ wait_of_send rows (Send address first openings) r why asks range is taken =
     no_error r None why (taken None (subst (λ o. IsNumberIn o None) (sym none) refl) tt) is
 wait_of_send rows (SendWithin address first openings wait) r why asks range is taken =
     let (name, at, from, count, is_wait, plain) = asks in
-    let (below, low, high, in_range) = range in
+    let (low, high, in_range) = range in
     no_error r (Some wait) why (taken (Some wait) (number_in _ wait is_wait) in_range) is
 wait_of_send rows (SendWith address first openings wait options) r why asks range is taken =
     let (name, at, from, count, is_wait, replaced) = asks in
-    let (below, low, high, in_range, one) = range in
+    let (low, high, in_range, one) = range in
     no_error r wait why (taken wait is_wait in_range) is
 wait_of_send rows (Status address wait) r why asks range is taken = let bad = asks.0 in absurd cc
 wait_of_send rows Loop r why asks range is taken = let e = ap head asks in absurd (omega (arith, e))

@@ -3,7 +3,6 @@ use Rattle.std.specs.Prelude.{◌≡◌, ◌<◌, ◌≤◌, ℕ, ⊤, List, [],
 use Rattle.clap.specs.Words.{App, Row, Rule, Shape, Text, first_of, new_app, new_rule, one_of, with_rule, with_subcommand}
 use Rattle.clap.specs.Simple.{new_shape, on_top}
 use Rattle.clap.specs.declared.builder.action.ArgAction.TheVariants.{Set, SetTrue}
-use Rattle.escpos_command.specs.Digits.{mark_count}
 use Rattle.escpos_command.specs.LineWidths.{is_line_width}
 use Rattle.escpos_command.specs.declared.line_width.TheConstants.{USUAL_LINE_DOTS}
 use Rattle.escpos_text.specs.Replacements.{is_replacement}
@@ -273,9 +272,9 @@ InRange (Image width threshold) = IsTrue (is_line_width width) × IfSome thresho
 InRange (DrawAt width) = IsTrue (is_line_width width)
 InRange (DrawRawAt width) = IsTrue (is_line_width width)
 InRange (LoopAt width) = IsTrue (is_line_width width)
-InRange (Send address first openings) = (first < mark_count) × (1 ≤ openings) × (openings ≤ MOST_OPENINGS)
-InRange (SendWithin address first openings wait) = (first < mark_count) × (1 ≤ openings) × (openings ≤ MOST_OPENINGS) × IsWait wait
-InRange (SendWith address first openings wait options) = (first < mark_count) × (1 ≤ openings) × (openings ≤ MOST_OPENINGS) × IfSome wait IsWait × IsOptions options
+InRange (Send address first openings) = (1 ≤ openings) × (openings ≤ MOST_OPENINGS)
+InRange (SendWithin address first openings wait) = (1 ≤ openings) × (openings ≤ MOST_OPENINGS) × IsWait wait
+InRange (SendWith address first openings wait options) = (1 ≤ openings) × (openings ≤ MOST_OPENINGS) × IfSome wait IsWait × IsOptions options
 InRange (Status address wait) = IfSome wait IsWait
 InRange _ = ⊤
 

@@ -2,7 +2,6 @@
 
 ghost use Rattle.std.specs.Prelude.{◌≡◌, ◌≢◌, ◌⊎◌, ◌≤◌, ◌<◌, ◌↔◌, ℕ, Option, Some, None, [], ◌∷◌, false, IfErr, IfOk, IfSome, IsSomeAnd, unwrap_or, IsTrue, Contains, codes, drop, map};
 ghost use Rattle.clap.specs.Words.{HasKind, IsAmong, app_of, fault_of, first_of, found_of, kind_of, one_of, rows_of, rule_of, subcommand_of, subcommand_rows_of};
-ghost use Rattle.escpos_command.specs.Digits.{mark_count};
 ghost use Rattle.escpos_jobs.specs.Address.{IsAddress};
 ghost use Rattle.escpos_jobs.specs.declared.address.Address.{Address};
 ghost use Rattle.escpos_jobs.specs.declared.task.Task.{Task};
@@ -15,7 +14,6 @@ use crate::options::{encode_asked, options_given};
 use crate::width::{draw_asked, loop_asked, render_asked};
 use clap::error::ErrorKind;
 use clap::{Arg, ArgAction, ArgMatches, Command};
-use escpos_command::MarkId;
 use escpos_jobs::address::Address;
 use escpos_jobs::task::{NoTask, Task};
 use std::alloc::{AllocError, Global};
@@ -237,18 +235,13 @@ fn address_in(text: &str) -> Result<Address, NoTask>
     Address::of_text(text).ok_or(NoTask::Usage)
 }
 
-// The number of the first mark that was given, if a mark may have this number.
+// The number of the first mark that was given.
 fn first_mark_of(given: &ArgMatches) -> Result<u32, NoTask>
-    ensures read { IfOk result (λ n. IsSomeAnd (one_of (codes "first") (rows_of (found_of given.now))) (λ text. IsNumber text n) × (n < mark_count)) }
-    ensures taken { (n : ℕ) → IsSomeAnd (one_of (codes "first") (rows_of (found_of given.now))) (λ text. IsNumber text n) → n < mark_count
-        → result ≡ Ok n }
+    ensures read { IfOk result (λ n. IsSomeAnd (one_of (codes "first") (rows_of (found_of given.now))) (λ text. IsNumber text n)) }
+    ensures taken { (n : ℕ) → IsSomeAnd (one_of (codes "first") (rows_of (found_of given.now))) (λ text. IsNumber text n) → result ≡ Ok n }
     ensures usage { IfErr result (λ why. why ≡ NoTask.Usage) }
 {
-    let first = number_given(given, "first")?.ok_or(NoTask::Usage)?;
-    match MarkId::of_number(first) {
-        Some(_) => Ok(first),
-        None => Err(NoTask::Usage),
-    }
+    number_given(given, "first")?.ok_or(NoTask::Usage)
 }
 
 // The number that was given for this option, or the fallback where it wasn't given; from 1 to `most`.

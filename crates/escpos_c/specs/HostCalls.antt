@@ -18,7 +18,7 @@ use Rattle.escpos_c.specs.Status.{number_of_status}
 abbrev pub IsNew : Option HostCore → ℕ → ℕ → Type 0
 IsNew None first before = ⊥
 IsNew (Some core) first before =
-    (core.host ≡ record { phase = Down; out = []; half = []; next = first; records = []; left = [] }) × (core.before ≡ before)
+    (core.host ≡ record { phase = Down; out = []; half = []; next = first; heard = 0; records = []; left = [] }) × (core.before ≡ before)
 
 -- The call was refused for this reason, and the host is as it was.
 abbrev pub IsRefused : (HostError → HostView → Type 0) → HostCore → HostCore → ℤ → ℕ → Type 0

@@ -1,5 +1,5 @@
 -- What the calls of a till answer. Each does what the call of escpos_till's machine does that it stands for.
-use Rattle.std.specs.Prelude.{ℕ, ℤ, pos, ◌≡◌, ◌≢◌, ◌⊎◌, min, List, [], ◌∷◌, ◌++◌, length, take, drop, Option, Some, None}
+use Rattle.std.specs.Prelude.{false, ℕ, ℤ, pos, ◌≡◌, ◌≢◌, ◌⊎◌, min, List, [], ◌∷◌, ◌++◌, length, take, drop, Option, Some, None}
 use Rattle.escpos_command.specs.declared.command.Command.{Command}
 use Rattle.escpos_host.specs.declared.send.SendFault.{SendFault}
 use Rattle.escpos_receipt.specs.declared.options.ReceiptOptions.{ReceiptOptions}
@@ -92,7 +92,7 @@ copy_of (b ∷ copy) = Some (b ∷ copy)
 -- The first receipt that waits is delivered, or the machine refuses to; or the text of a copy is none, and the machine isn't asked.
 abbrev pub DeliversCopy : ℕ → List ℕ → ℕ → ℤ → Told → TillCore → TillCore → Type 0
 DeliversCopy openings copy most status told old new =
-    TillCalled (λ m after. Delivers m openings most (copy_of copy) after) (λ m why. RefusesDeliver m openings why) SameEntries status told old new
+    TillCalled (λ m after. Delivers m openings most (copy_of copy) false after) (λ m why. RefusesDeliver m openings why) SameEntries status told old new
     ⊎ ((copy ≢ []) × ¬ IsCopyText copy × (status ≡ pos 1) × (told ≡ refused_for BAD_COPY) × (new ≡ old))
 
 -- ## What it asks for

@@ -14,7 +14,8 @@ use crate::refusal::NO_REASON;
 use std::alloc::Global;
 
 /// Puts a host into the handle, and frees what it held. The host has no link, and its first mark will have this number: one
-/// that was never used with this printer. From 1,679,616 on, no mark is left.
+/// that was never used with this printer. A host doesn't know which marks of an older host are answered: until it has heard an answer
+/// itself, no mark is left from 1,679,616 on.
 #[unsafe(no_mangle)]
 pub extern "C" fn escpos_host_new(alloc: Global, host: &mut HostHandle, first_mark: u32) -> i32
     ensures { ((result ≡ pos 0) × IsNew host.new.value first_mark 0) ⊎ ((result ≡ pos 4) × (host.new.value ≡ host.old.value)) }

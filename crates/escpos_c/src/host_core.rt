@@ -30,11 +30,11 @@ pub struct HostCore {
 impl HostCore {
     /// A host on the heap, which goes on after `before` records; `None` if the allocation failed.
     pub fn boxed(alloc: Global, first_mark: u32, before: usize) -> Option<Box<HostCore>>
-        ensures host { IfSome result (λ core. core.value.host ≡ record { phase = Down; out = []; half = []; next = first_mark; records = []; left = [] }) }
+        ensures host { IfSome result (λ core. core.value.host ≡ record { phase = Down; out = []; half = []; next = first_mark; heard = 0; records = []; left = [] }) }
         ensures before { IfSome result (λ core. core.value.before ≡ before) }
     {
         let core = HostCore {
-            host: Host::new(alloc, first_mark),
+            host: Host::resume(alloc, first_mark, 0, Vec::new(alloc)),
             before,
         };
         match Box::new(alloc, core) {

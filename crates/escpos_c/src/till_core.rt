@@ -132,10 +132,10 @@ impl TillCore {
         ensures { DeliversCopy openings copy.now most (number_of_status result.0) result.1 self.old self.new }
     {
         if copy.is_empty() {
-            return ended(self.machine.deliver(openings, None, most));
+            return ended(self.machine.deliver(openings, None, most, false));
         }
         match CopyText::new(copy) {
-            Some(text) => ended(self.machine.deliver(openings, Some(&text), most)),
+            Some(text) => ended(self.machine.deliver(openings, Some(&text), most, false)),
             None => (CallStatus::Refused, Told::reason(BAD_COPY)),
         }
     }

@@ -7,11 +7,11 @@ use Rattle.std.proofs.lemmas.Grind.{flat_map-append}
 use Rattle.std.proofs.lemmas.List.{take-append-le, take-take}
 use Rattle.escpos_command.specs.declared.command.Command.TheVariants as kind
 use Rattle.escpos_command.specs.CommandTable.{row, spell}
-use Rattle.escpos_command.specs.Digits.{mark_count, mark_of}
+use Rattle.escpos_host.specs.Counted.{id_of}
 use Rattle.escpos_host.specs.declared.host.HostError.{HostError}
 use Rattle.escpos_host.specs.declared.host.HostError.TheVariants as error
 use Rattle.escpos_host.specs.Awaits.{RefusesOpening, dialled, dialled_by}
-use Rattle.escpos_host.specs.Machine.{HostView, Down, Opening, RefusesLinkUp, RefusesNudge, ask_reports, gone_down, linked_by, nudged}
+use Rattle.escpos_host.specs.Machine.{HostView, Down, HasMark, Opening, RefusesLinkUp, RefusesNudge, ask_reports, gone_down, linked_by, mark_limit, nudged}
 use Rattle.escpos_host.specs.Says.{marks_from}
 use Rattle.escpos_host.specs.Sends.{IsCut}
 use Rattle.escpos_host.proofs.Said.{marks-snoc}
@@ -22,23 +22,23 @@ before_marks true = row ask_reports
 before_marks false = []
 
 dialled_so : (reporting : Bool) (h : HostView) (n : ℕ)
-    → dialled_by reporting h n ≡ record { phase = Opening h.next; out = before_marks reporting ++ spell (marks_from n h.next); half = []; next = h.next + n; records = h.records; left = h.left }
+    → dialled_by reporting h n ≡ record { phase = Opening h.next; out = before_marks reporting ++ spell (marks_from n h.next); half = []; next = h.next + n; heard = h.heard; records = h.records; left = h.left }
 dialled_so true h n = refl
 dialled_so false h n = refl
 
-pub dialled_next : (reporting : Bool) (h : HostView) (n : ℕ) → (dialled_by reporting h n).next ≡ h.next + n
-dialled_next true h n = refl
-dialled_next false h n = refl
+pub dialled_has : (reporting : Bool) (h : HostView) (n : ℕ) → HasMark (dialled_by reporting h n) → h.next + n < mark_limit h
+dialled_has true h n has = has
+dialled_has false h n has = has
 
 linked_so : (reporting : Bool) (h : HostView)
-    → linked_by reporting h ≡ record { phase = Opening h.next; out = before_marks reporting ++ row (kind.Mark (mark_of h.next)); half = []; next = h.next + 1; records = h.records; left = h.left }
+    → linked_by reporting h ≡ record { phase = Opening h.next; out = before_marks reporting ++ row (kind.Mark (id_of h.next)); half = []; next = h.next + 1; heard = h.heard; records = h.records; left = h.left }
 linked_so true h = refl
 linked_so false h = refl
 
 pub dialled_first : (reporting : Bool) (h : HostView) → linked_by reporting h ≡ dialled_by reporting h 1
 dialled_first reporting h =
     linked_so reporting h
-    ∙ ap (λ out. record { phase = Opening h.next; out = before_marks reporting ++ out; half = []; next = h.next + 1; records = h.records; left = h.left }) (sym (append-nil (row (kind.Mark (mark_of h.next)))))
+    ∙ ap (λ out. record { phase = Opening h.next; out = before_marks reporting ++ out; half = []; next = h.next + 1; heard = h.heard; records = h.records; left = h.left }) (sym (append-nil (row (kind.Mark (id_of h.next)))))
     ∙ sym (dialled_so reporting h 1)
 
 pub dialled_more : (reporting : Bool) (h : HostView) (n : ℕ) → nudged (dialled_by reporting h n) ≡ dialled_by reporting h (n + 1)
@@ -46,14 +46,14 @@ dialled_more reporting h n =
     let one : n + 1 ≡ suc n = omega arith in
     let count : (h.next + n) + 1 ≡ h.next + (n + 1) = omega arith in
     let before = before_marks reporting in
-    let last = row (kind.Mark (mark_of (h.next + n))) in
+    let last = row (kind.Mark (id_of (h.next + n))) in
     let whole : (before ++ spell (marks_from n h.next)) ++ last ≡ before ++ spell (marks_from (n + 1) h.next) =
     append_assoc before (spell (marks_from n h.next)) last
     ∙ sym (ap (λ k. before ++ spell (marks_from k h.next)) one ∙ ap (λ cs. before ++ spell cs) (marks-snoc n h.next)
-    ∙ ap (λ v. before ++ v) (flat_map-append row (marks_from n h.next) (kind.Mark (mark_of (h.next + n)) ∷ []) ∙ ap (λ v. spell (marks_from n h.next) ++ v) (append-nil last))) in
+    ∙ ap (λ v. before ++ v) (flat_map-append row (marks_from n h.next) (kind.Mark (id_of (h.next + n)) ∷ []) ∙ ap (λ v. spell (marks_from n h.next) ++ v) (append-nil last))) in
     ap nudged (dialled_so reporting h n)
-    ∙ ap (λ out. record { phase = Opening h.next; out = out; half = []; next = (h.next + n) + 1; records = h.records; left = h.left }) whole
-    ∙ ap (λ k. record { phase = Opening h.next; out = before ++ spell (marks_from (n + 1) h.next); half = []; next = k; records = h.records; left = h.left }) count
+    ∙ ap (λ out. record { phase = Opening h.next; out = out; half = []; next = (h.next + n) + 1; heard = h.heard; records = h.records; left = h.left }) whole
+    ∙ ap (λ k. record { phase = Opening h.next; out = before ++ spell (marks_from (n + 1) h.next); half = []; next = k; heard = h.heard; records = h.records; left = h.left }) count
     ∙ sym (dialled_so reporting h (n + 1))
 
 pub refused_first : (why : HostError) (h after : HostView) (openings : ℕ) → RefusesLinkUp why h → after ≡ h → RefusesOpening why h openings after
@@ -63,17 +63,17 @@ refused_first error.AlreadyUp h after openings refuses same = (refuses, same)
 refused_first error.Memory h after openings refuses same = (refuses.0, refuses.1, inl same)
 refused_first error.InFlightFull h after openings refuses same = absurd refuses
 
-later_refused : (why : HostError) (h after : HostView) (n openings : ℕ) → h.phase ≡ Down → 1 ≤ n → n < openings → h.next + n ≤ mark_count → RefusesNudge why (dialled h n)
+later_refused : (why : HostError) (h after : HostView) (n openings : ℕ) → h.phase ≡ Down → 1 ≤ n → n < openings → h.next + n ≤ mark_limit h → RefusesNudge why (dialled h n)
     → after ≡ gone_down (dialled h n) → RefusesOpening why h openings after
 later_refused error.NotReady h after n openings down some few marks refuses gone = absurd (refuses tt)
 later_refused error.MarksUsedUp h after n openings down some few marks refuses gone =
     let used = refuses.1 in
-    let all : h.next + n ≡ mark_count = omega (arith, used, marks) in
+    let all : h.next + n ≡ mark_limit h = omega (arith, used, marks) in
     let positive : 0 < n = omega (arith, some) in (down, inr (n, positive, few, all, gone))
 later_refused error.AlreadyUp h after n openings down some few marks refuses gone = absurd refuses
 later_refused error.Memory h after n openings down some few marks refuses gone =
     let left = refuses.1 in
-    let first : h.next < mark_count = omega (arith, left) in
+    let first : h.next < mark_limit h = omega (arith, left) in
     let positive : 0 < n = omega (arith, some) in (down, first, inr (n, positive, few, left, gone))
 later_refused error.InFlightFull h after n openings down some few marks refuses gone = absurd refuses
 
@@ -89,7 +89,7 @@ down_so : (reporting : Bool) (h : HostView) (n : ℕ) → gone_down (dialled_by 
 down_so true h n = refl
 down_so false h n = refl
 
-pub refused_later : (reporting : Bool) (why : HostError) (h after : HostView) (n openings : ℕ) → h.phase ≡ Down → 1 ≤ n → n < openings → h.next + n ≤ mark_count
+pub refused_later : (reporting : Bool) (why : HostError) (h after : HostView) (n openings : ℕ) → h.phase ≡ Down → 1 ≤ n → n < openings → h.next + n ≤ mark_limit h
     → RefusesNudge why (dialled_by reporting h n) → after ≡ gone_down (dialled_by reporting h n) → RefusesOpening why h openings after
 refused_later reporting why h after n openings down some few marks refuses gone =
     later_refused why h after n openings down some few marks (nudge_refused reporting why h n refuses) (gone ∙ down_so reporting h n)

@@ -1,12 +1,12 @@
 -- A host with more records before its own does the same.
-use Rattle.std.proofs.Common.{◌≡◌, ◌≢◌, inl, inr, ℕ, List, [], ◌∷◌, ◌++◌, arith, length, length-append, map, drop, refl, sym, ◌∙◌, ap, append_assoc}
+use Rattle.std.proofs.Common.{◌≡◌, ◌≢◌, ◌+◌, inl, inr, ℕ, List, [], ◌∷◌, ◌++◌, arith, length, length-append, map, drop, refl, sym, ◌∙◌, ap, append_assoc}
 use Rattle.std.specs.Prelude.{◌↔◌, slice_index}
 use Rattle.escpos_command.specs.declared.answer.Answer.{Answer}
 use Rattle.escpos_command.specs.declared.command.Command.{Command}
 use Rattle.escpos_host.specs.declared.host.HostEvent.{HostEvent}
 use Rattle.escpos_host.specs.declared.host.HostEvent.TheVariants as event
 use Rattle.escpos_host.specs.Earlier.{shifted, with_earlier}
-use Rattle.escpos_host.specs.Heard.{EndsLink, Grows, HearsAll, HearsByte, HearsInTurn, IsHeard, Misfits, Passed, Turns, last_of, taken_at, with_half}
+use Rattle.escpos_host.specs.Heard.{EndsLink, Grows, HearsAll, HearsByte, HearsInTurn, IsHeard, IsToldLate, Misfits, Passed, Turns, last_of, taken_at, with_half}
 use Rattle.escpos_host.specs.Machine.{HostView, IsSound, Open, receipts_of}
 
 -- ## Events
@@ -45,10 +45,14 @@ last_shifted n (e ∷ f ∷ es) = last_shifted n (f ∷ es)
 
 -- ## One byte
 
+earlier_late : (earlier : List (List Command)) (h after : HostView) (first : ℕ) (id : List ℕ) → IsToldLate h first id after → IsToldLate (with_earlier earlier h) first id (with_earlier earlier after)
+earlier_late earlier h after first id (inl (n, is, same)) = inl (n, is, ap (with_earlier earlier) same)
+earlier_late earlier h after first id (inr (none, same)) = inr (none, ap (with_earlier earlier) same)
+
 earlier_turns : (earlier : List (List Command)) (h after : HostView) (a : Answer) (e : HostEvent) → Turns h a e after
     → Turns (with_earlier earlier h) a (shifted (length earlier) e) (with_earlier earlier after)
 earlier_turns earlier h after a event.None (ignored, same) = (ignored, ap (with_earlier earlier) same)
-earlier_turns earlier h after a event.Opened (first, id, phase, is, opening, same) = (first, id, phase, is, opening, ap (with_earlier earlier) same)
+earlier_turns earlier h after a event.Opened (first, n, id, phase, is, opening, same) = (first, n, id, phase, is, opening, ap (with_earlier earlier) same)
 earlier_turns earlier h after a (event.Recorded number) (id, is, r) = (
   id,
   is,
@@ -63,7 +67,7 @@ earlier_turns earlier h after a (event.Recorded number) (id, is, r) = (
         phase,
         f,
         ap (with_earlier earlier) same
-            ∙ ap (λ (rs : List (List Command)). record { phase = Open r.others; out = h.out; half = h.half; next = h.next; records = rs; left = h.left })
+            ∙ ap (λ (rs : List (List Command)). record { phase = Open r.others; out = h.out; half = h.half; next = h.next; heard = r.last.number + 1; records = rs; left = h.left })
             (sym (append_assoc earlier h.records (receipts_of (r.before ++ r.last ∷ [])))),
       )
       | inr (first, phase, other, f, same) ↦ inr (
@@ -72,13 +76,13 @@ earlier_turns earlier h after a (event.Recorded number) (id, is, r) = (
         other,
         f,
         ap (with_earlier earlier) same
-            ∙ ap (λ (rs : List (List Command)). record { phase = h.phase; out = h.out; half = h.half; next = h.next; records = rs; left = r.others })
+            ∙ ap (λ (rs : List (List Command)). record { phase = h.phase; out = h.out; half = h.half; next = h.next; heard = r.last.number + 1; records = rs; left = r.others })
             (sym (append_assoc earlier h.records (receipts_of (r.before ++ r.last ∷ [])))),
       )
     ];
   },
 )
-earlier_turns earlier h after a (event.Late id) (first, phase, is, other, unleft, same) = (first, phase, is, other, unleft, ap (with_earlier earlier) same)
+earlier_turns earlier h after a (event.Late id) (first, phase, is, other, unleft, late) = (first, phase, is, other, unleft, earlier_late earlier h after first id late)
 earlier_turns earlier h after a (event.Status byte) (is, same) = (is, ap (with_earlier earlier) same)
 earlier_turns earlier h after a (event.Condition block) (is, same) = (is, ap (with_earlier earlier) same)
 earlier_turns earlier h after a (event.BadAnswer place) turns = absurd turns

@@ -9,7 +9,7 @@ use Rattle.escpos_host.specs.declared.host.HostEvent.TheVariants as event
 use Rattle.escpos_host.specs.Heard.{EndsLink, GoesOn, Grows, HearsAll, HearsByte, HearsInTurn, IsHeard, IsOff, Misfits, Passed, Turns, last_of, taken_at, with_half}
 use Rattle.escpos_host.specs.Machine.{HostView, Down, Open, gone_down}
 use Rattle.escpos_host.proofs.Passing.{Joined, whole_heard}
-use Rattle.escpos_host.proofs.Recording.{keeps}
+use Rattle.escpos_host.proofs.Recording.{keeps, told}
 
 -- Whole answers may be cut anywhere.
 abbrev pub Cut : Type 0
@@ -39,11 +39,11 @@ pub turned : (h after : HostView) (a : Answer) (e : HostEvent) → h.phase ≢ D
     → (EndsLink e × Off after) ⊎ ((EndsLink e → ⊥) × (after.phase ≢ Down) × (after.half ≡ []))
 turned h after a event.None up half (ignored, same) =
     inr (λ ends. ends, λ is_down. up (sym (ap (λ (v : HostView). v.phase) same) ∙ is_down), ap (λ (v : HostView). v.half) same ∙ half)
-turned h after a event.Opened up half (first, id, phase, is, opening, same) =
+turned h after a event.Opened up half (first, n, id, phase, is, opening, same) =
     inr (λ ends. ends, λ is_down. let bad : Open [] ≡ Down = sym (ap (λ (v : HostView). v.phase) same) ∙ is_down in cc, ap (λ (v : HostView). v.half) same ∙ half)
 turned h after a (event.Recorded number) up half (id, is, r) = let k = keeps h after id number r in inr (λ ends. ends, k.up, k.half ∙ half)
-turned h after a (event.Late id) up half (first, phase, is, other, unleft, same) =
-    inr (λ ends. ends, λ is_down. up (sym (ap (λ (v : HostView). v.phase) same) ∙ is_down), ap (λ (v : HostView). v.half) same ∙ half)
+turned h after a (event.Late id) up half (first, phase, is, other, unleft, late) =
+    let k = (told h after first id phase late).keeps in inr (λ ends. ends, k.up, k.half ∙ half)
 turned h after a (event.Status byte) up half (is, same) =
     inr (λ ends. ends, λ is_down. up (sym (ap (λ (v : HostView). v.phase) same) ∙ is_down), ap (λ (v : HostView). v.half) same ∙ half)
 turned h after a (event.Condition block) up half (is, same) =

@@ -1,3 +1,4 @@
+pub mod Ahead
 pub mod Pending
 pub mod AnswerFronts
 pub mod Views

@@ -1,5 +1,5 @@
 -- No real-time command stands in what a host says, but in its requests.
-use Rattle.std.proofs.Common.{ℕ, zero, suc, ◌≡◌, ◌⊎◌, inl, inr, ◌+◌, ◌<◌, ◌≤◌, Bool, true, false, List, [], ◌∷◌, ◌++◌, length, refl, sym, ◌∙◌, subst, append-nil, append_assoc, arith}
+use Rattle.std.proofs.Common.{ℕ, zero, suc, ◌≡◌, ◌⊎◌, inl, inr, ◌+◌, Bool, true, false, List, [], ◌∷◌, ◌++◌, length, refl, sym, ◌∙◌, subst, append-nil, append_assoc, arith}
 use Rattle.std.specs.List.{AllByRecursion, flat_map, list_all}
 use Rattle.std.specs.Prelude.{IsTrue, ◌==◌, ◌&&◌}
 use Rattle.std.proofs.lemmas.Bool.Decides.{nat_tests}
@@ -8,7 +8,7 @@ use Rattle.escpos_command.specs.declared.bytes.TheConstants.{DLE}
 use Rattle.escpos_command.specs.declared.command.Command.{Command}
 use Rattle.escpos_command.specs.declared.command.Command.TheVariants as kind
 use Rattle.escpos_command.specs.CommandTable.{AreCommands, IsCommand, row, spell}
-use Rattle.escpos_command.specs.Digits.{mark_count, mark_of}
+use Rattle.escpos_host.specs.Counted.{id_of}
 use Rattle.escpos_command.specs.Parameters.{is_mark_byte, is_mark_id}
 use Rattle.escpos_real_time.specs.RealTime.{HoldsRealTime}
 use Rattle.escpos_real_time.specs.Scan.{holds}
@@ -19,17 +19,17 @@ use Rattle.escpos_receipt.proofs.RealTimes.{none_in, said as holding}
 use Rattle.escpos_host.specs.Machine.{HostView, InFlight, Phase, Down, Opening, Open, ask_reports}
 use Rattle.escpos_host.specs.Says.{Asked, AskedReports, HasNoRequest, IsBeginning, IsPart, IsRequest, IsSent, Part, SaysIn, Sent, Talks, framed, marks_from, said_by}
 
--- A mark with such a number is a command.
+-- Each mark with a number is a command.
 abbrev pub Ids : Type 0
-Ids = (n : ℕ) → n < mark_count → IsTrue (is_mark_id (mark_of n))
+Ids = (n : ℕ) → IsTrue (is_mark_id (id_of n))
 
 pub all_of_both : (some others : List Command) → AreCommands some → AreCommands others → AreCommands (some ++ others)
 all_of_both [] others all more = more
 all_of_both (c ∷ some) others all more = (all.0, all_of_both some others all.1 more)
 
-pub openings_in_range : Ids → (count first : ℕ) → first + count ≤ mark_count → AreCommands (marks_from count first)
-openings_in_range ids zero first enough = tt
-openings_in_range ids (suc count) first enough = (ids first (omega (arith, enough)), openings_in_range ids count (first + 1) (omega (arith, enough)))
+pub openings_in_range : Ids → (count first : ℕ) → AreCommands (marks_from count first)
+openings_in_range ids zero first = tt
+openings_in_range ids (suc count) first = (ids first, openings_in_range ids count (first + 1))
 
 pub nothing_held : HoldsRealTime [] → ⊥
 nothing_held held = absurd (let bad : false ≡ true = finds [] held in cc)
@@ -74,15 +74,15 @@ joined_hold_none some others known none more = holding (some ++ others) (λ held
   | inr later ↦ none_in others more later
 ])
 
-pub one_mark_holds_none : Ids → (n : ℕ) → n < mark_count → HoldNoRealTime (kind.Mark (mark_of n) ∷ [])
-one_mark_holds_none ids n few =
-    holding (kind.Mark (mark_of n) ∷ []) (λ held. mark_holds_none (mark_of n) (ids n few) (subst HoldsRealTime (append-nil (row (kind.Mark (mark_of n)))) held))
+pub one_mark_holds_none : Ids → (n : ℕ) → HoldNoRealTime (kind.Mark (id_of n) ∷ [])
+one_mark_holds_none ids n =
+    holding (kind.Mark (id_of n) ∷ []) (λ held. mark_holds_none (id_of n) (ids n) (subst HoldsRealTime (append-nil (row (kind.Mark (id_of n)))) held))
 
-pub openings_hold_none : Ids → (count first : ℕ) → first + count ≤ mark_count → HoldNoRealTime (marks_from count first)
-openings_hold_none ids zero first enough = holding [] nothing_held
-openings_hold_none ids (suc count) first enough =
-    joined_hold_none (kind.Mark (mark_of first) ∷ []) (marks_from count (first + 1)) (openings_in_range ids count (first + 1) (omega (arith, enough)))
-    (one_mark_holds_none ids first (omega (arith, enough))) (openings_hold_none ids count (first + 1) (omega (arith, enough)))
+pub openings_hold_none : Ids → (count first : ℕ) → HoldNoRealTime (marks_from count first)
+openings_hold_none ids zero first = holding [] nothing_held
+openings_hold_none ids (suc count) first =
+    joined_hold_none (kind.Mark (id_of first) ∷ []) (marks_from count (first + 1)) (openings_in_range ids count (first + 1)) (one_mark_holds_none ids first)
+    (openings_hold_none ids count (first + 1))
 
 pub init_holds_none : HoldNoRealTime (kind.Init ∷ [])
 init_holds_none = holding (kind.Init ∷ []) (λ held. absurd (let bad : false ≡ true = finds (0x1B ∷ 0x40 ∷ []) held in cc))
@@ -91,11 +91,11 @@ pub reports_hold_none : HoldNoRealTime (ask_reports ∷ [])
 reports_hold_none = holding (ask_reports ∷ []) (λ held. absurd (let bad : false ≡ true = finds (0x1D ∷ 0x61 ∷ 0x0E ∷ []) held in cc))
 
 -- A receipt between its Init and its closing mark.
-pub sent_holds_none : Ids → (receipt : List Command) (n : ℕ) → AreCommands receipt → n < mark_count → HoldNoRealTime receipt
-    → HoldNoRealTime (kind.Init ∷ (receipt ++ kind.Mark (mark_of n) ∷ []))
-sent_holds_none ids receipt n known few none =
-    joined_hold_none (kind.Init ∷ []) (receipt ++ kind.Mark (mark_of n) ∷ []) (all_of_both receipt (kind.Mark (mark_of n) ∷ []) known (ids n few, tt)) init_holds_none
-    (joined_hold_none receipt (kind.Mark (mark_of n) ∷ []) (ids n few, tt) none (one_mark_holds_none ids n few))
+pub sent_holds_none : Ids → (receipt : List Command) (n : ℕ) → AreCommands receipt → HoldNoRealTime receipt
+    → HoldNoRealTime (kind.Init ∷ (receipt ++ kind.Mark (id_of n) ∷ []))
+sent_holds_none ids receipt n known none =
+    joined_hold_none (kind.Init ∷ []) (receipt ++ kind.Mark (id_of n) ∷ []) (all_of_both receipt (kind.Mark (id_of n) ∷ []) known (ids n, tt)) init_holds_none
+    (joined_hold_none receipt (kind.Mark (id_of n) ∷ []) (ids n, tt) none (one_mark_holds_none ids n))
 
 -- ## But in its requests
 
@@ -111,19 +111,19 @@ both : {X : Type 0} (P : X → Type 0) (xs ys : List X) → AllByRecursion P xs 
 both P [] ys all more = more
 both P (x ∷ xs) ys all more = (all.0, both P xs ys all.1 more)
 
-mark_quiet : Ids → (n : ℕ) → n < mark_count → IsQuiet (kind.Mark (mark_of n))
-mark_quiet ids n few held = absurd (mark_holds_none (mark_of n) (ids n few) held)
+mark_quiet : Ids → (n : ℕ) → IsQuiet (kind.Mark (id_of n))
+mark_quiet ids n held = absurd (mark_holds_none (id_of n) (ids n) held)
 
 reports_quiet : IsQuiet ask_reports
 reports_quiet held = absurd (let bad : false ≡ true = finds (0x1D ∷ 0x61 ∷ 0x0E ∷ []) held in cc)
 
-marks_quiet : Ids → (count first : ℕ) → first + count ≤ mark_count → AllByRecursion IsQuiet (marks_from count first)
-marks_quiet ids zero first enough = tt
-marks_quiet ids (suc count) first enough = (mark_quiet ids first (omega (arith, enough)), marks_quiet ids count (first + 1) (omega (arith, enough)))
+marks_quiet : Ids → (count first : ℕ) → AllByRecursion IsQuiet (marks_from count first)
+marks_quiet ids zero first = tt
+marks_quiet ids (suc count) first = (mark_quiet ids first, marks_quiet ids count (first + 1))
 
-opening_quiet : Ids → (count first : ℕ) (said : List Command) → first + count ≤ mark_count → IsBeginning count first said → AllByRecursion IsQuiet said
-opening_quiet ids count first said enough (inl marks) = subst (AllByRecursion IsQuiet) (sym marks) (marks_quiet ids count first enough)
-opening_quiet ids count first said enough (inr marks) = subst (AllByRecursion IsQuiet) (sym marks) (reports_quiet, marks_quiet ids count first enough)
+opening_quiet : Ids → (count first : ℕ) (said : List Command) → IsBeginning count first said → AllByRecursion IsQuiet said
+opening_quiet ids count first said (inl marks) = subst (AllByRecursion IsQuiet) (sym marks) (marks_quiet ids count first)
+opening_quiet ids count first said (inr marks) = subst (AllByRecursion IsQuiet) (sym marks) (reports_quiet, marks_quiet ids count first)
 
 -- The commands of a receipt hold none, since its bytes hold none.
 each_quiet : (before cs : List Command) → (HoldsRealTime (spell (before ++ cs)) → ⊥) → AllByRecursion IsQuiet cs
@@ -134,9 +134,9 @@ each_quiet before (c ∷ cs) none = (
 )
 
 sent_quiet : Ids → (p : InFlight) → IsSent p → AllByRecursion IsQuiet (framed p)
-sent_quiet ids p (whole, (n, few, is)) = (
+sent_quiet ids p (whole, is) = (
   λ held. absurd (let bad : false ≡ true = finds (row kind.Init) held in cc),
-  both IsQuiet p.receipt (kind.Mark p.mark ∷ []) (each_quiet [] p.receipt (none_in p.receipt whole.no_real_time)) (subst (λ id. IsQuiet (kind.Mark id)) (sym is) (mark_quiet ids n few), tt),
+  both IsQuiet p.receipt (kind.Mark p.mark ∷ []) (each_quiet [] p.receipt (none_in p.receipt whole.no_real_time)) (subst (λ id. IsQuiet (kind.Mark id)) (sym is) (mark_quiet ids p.number), tt),
 )
 
 part_quiet : Ids → (part : Part) → IsPart part → AllByRecursion IsQuiet (said_by part)
@@ -151,12 +151,11 @@ parts_quiet P says (x ∷ xs) each all = both IsQuiet (says x) (flat_map says xs
 
 said_quiet : Ids → (phase : Phase) (next : ℕ) (said : List Command) → SaysIn phase next said → AllByRecursion IsQuiet said
 said_quiet ids Down next said says = absurd says
-said_quiet ids (Opening first) next said (count, is_next, few, is_said) =
-    opening_quiet ids (suc count) first said (omega (arith, is_next, few)) is_said
-said_quiet ids (Open flight) next said (first, count, opening, parts, few, opens, each, sent, is_said) =
+said_quiet ids (Opening first) next said (count, is_next, is_said) = opening_quiet ids (suc count) first said is_said
+said_quiet ids (Open flight) next said (first, count, opening, parts, opens, each, sent, is_said) =
     subst (AllByRecursion IsQuiet) (sym is_said)
     (both IsQuiet (opening ++ flat_map said_by parts) (flat_map framed flight)
-    (both IsQuiet opening (flat_map said_by parts) (opening_quiet ids (suc count) first opening few opens) (parts_quiet IsPart said_by parts (part_quiet ids) each))
+    (both IsQuiet opening (flat_map said_by parts) (opening_quiet ids (suc count) first opening opens) (parts_quiet IsPart said_by parts (part_quiet ids) each))
     (parts_quiet IsSent framed flight (sent_quiet ids) sent))
 
 -- Commands that hold none, but for requests, hold none where there is no request.

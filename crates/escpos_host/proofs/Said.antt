@@ -1,12 +1,12 @@
 -- What a host has said keeps its form.
 use Rattle.std.proofs.Common.{◌≡◌, inl, inr, ℕ, ◌+◌, zero, suc, List, [], ◌∷◌, ◌++◌, refl, sym, ◌∙◌, ap, subst, append-nil, append_assoc, arith}
-use Rattle.std.specs.Prelude.{slice_index, IsTrue, ◌≢◌, ◌<◌}
+use Rattle.std.specs.Prelude.{slice_index, IsTrue, ◌≢◌}
 use Rattle.std.specs.List.{flat_map}
 use Rattle.std.proofs.lemmas.Grind.{flat_map-append}
 use Rattle.escpos_command.specs.declared.command.Command.{Command}
 use Rattle.escpos_command.specs.declared.command.Command.TheVariants as kind
 use Rattle.escpos_command.specs.CommandTable.{row, spell}
-use Rattle.escpos_command.specs.Digits.{mark_count, mark_of}
+use Rattle.escpos_host.specs.Counted.{id_of}
 use Rattle.escpos_command.specs.Parameters.{is_status_kind}
 use Rattle.escpos_command.specs.declared.answer.Answer.{Answer}
 use Rattle.escpos_host.specs.declared.host.HostEvent.{HostEvent}
@@ -17,49 +17,48 @@ use Rattle.escpos_receipt.proofs.Prefixes.{all_joined}
 use Rattle.escpos_host.specs.Says.{Asked, AskedReports, IsBeginning, IsPart, IsSent, Part, SaysIn, Sent, Talks, marks_from, said_by, framed}
 
 -- One more mark.
-pub marks-snoc : (count first : ℕ) → marks_from (suc count) first ≡ marks_from count first ++ kind.Mark (mark_of (first + count)) ∷ []
-marks-snoc zero first = let same : first ≡ first + 0 = omega arith in ap (λ n. kind.Mark (mark_of n) ∷ []) same
+pub marks-snoc : (count first : ℕ) → marks_from (suc count) first ≡ marks_from count first ++ kind.Mark (id_of (first + count)) ∷ []
+marks-snoc zero first = let same : first ≡ first + 0 = omega arith in ap (λ n. kind.Mark (id_of n) ∷ []) same
 marks-snoc (suc count) first =
     let same : (first + 1) + count ≡ first + suc count = omega arith in
-    ap (λ cs. kind.Mark (mark_of first) ∷ cs) (marks-snoc count (first + 1) ∙ ap (λ n. marks_from count (first + 1) ++ kind.Mark (mark_of n) ∷ []) same)
+    ap (λ cs. kind.Mark (id_of first) ∷ cs) (marks-snoc count (first + 1) ∙ ap (λ n. marks_from count (first + 1) ++ kind.Mark (id_of n) ∷ []) same)
 
-pub says_linked : (next : ℕ) → next < mark_count → SaysIn (Opening next) (next + 1) (kind.Mark (mark_of next) ∷ [])
-says_linked next marks = (0, omega arith, omega (arith, marks), inl refl)
+pub says_linked : (next : ℕ) → SaysIn (Opening next) (next + 1) (kind.Mark (id_of next) ∷ [])
+says_linked next = (0, omega arith, inl refl)
 
-pub says_linked_reporting : (next : ℕ) → next < mark_count → SaysIn (Opening next) (next + 1) (ask_reports ∷ kind.Mark (mark_of next) ∷ [])
-says_linked_reporting next marks = (0, omega arith, omega (arith, marks), inr refl)
+pub says_linked_reporting : (next : ℕ) → SaysIn (Opening next) (next + 1) (ask_reports ∷ kind.Mark (id_of next) ∷ [])
+says_linked_reporting next = (0, omega arith, inr refl)
 
 -- One more opening mark.
-more_marks : (count first next : ℕ) → next ≡ first + count → marks_from count first ++ kind.Mark (mark_of next) ∷ [] ≡ marks_from (suc count) first
-more_marks count first next is = ap (λ n. marks_from count first ++ kind.Mark (mark_of n) ∷ []) is ∙ sym (marks-snoc count first)
+more_marks : (count first next : ℕ) → next ≡ first + count → marks_from count first ++ kind.Mark (id_of next) ∷ [] ≡ marks_from (suc count) first
+more_marks count first next is = ap (λ n. marks_from count first ++ kind.Mark (id_of n) ∷ []) is ∙ sym (marks-snoc count first)
 
-more_opening : (count first next : ℕ) (said : List Command) → next ≡ first + count → IsBeginning count first said → IsBeginning (suc count) first (said ++ kind.Mark (mark_of next) ∷ [])
-more_opening count first next said is (inl marks) = inl (ap (λ cs. cs ++ kind.Mark (mark_of next) ∷ []) marks ∙ more_marks count first next is)
+more_opening : (count first next : ℕ) (said : List Command) → next ≡ first + count → IsBeginning count first said → IsBeginning (suc count) first (said ++ kind.Mark (id_of next) ∷ [])
+more_opening count first next said is (inl marks) = inl (ap (λ cs. cs ++ kind.Mark (id_of next) ∷ []) marks ∙ more_marks count first next is)
 more_opening count first next said is (inr marks) =
-    inr (ap (λ cs. cs ++ kind.Mark (mark_of next) ∷ []) marks ∙ ap (λ cs. ask_reports ∷ cs) (more_marks count first next is))
+    inr (ap (λ cs. cs ++ kind.Mark (id_of next) ∷ []) marks ∙ ap (λ cs. ask_reports ∷ cs) (more_marks count first next is))
 
-pub says_nudged : (phase : Phase) (next : ℕ) (said : List Command) → Opens phase → next < mark_count → SaysIn phase next said → SaysIn phase (next + 1) (said ++ kind.Mark (mark_of next) ∷ [])
-says_nudged Down next said opening marks says = absurd says
-says_nudged (Open flight) next said opening marks says = absurd opening
-says_nudged (Opening first) next said opening marks (count, is_next, few, is_said) =
+pub says_nudged : (phase : Phase) (next : ℕ) (said : List Command) → Opens phase → SaysIn phase next said → SaysIn phase (next + 1) (said ++ kind.Mark (id_of next) ∷ [])
+says_nudged Down next said opening says = absurd says
+says_nudged (Open flight) next said opening says = absurd opening
+says_nudged (Opening first) next said opening (count, is_next, is_said) =
     let later : next + 1 ≡ first + suc (suc count) = omega (arith, is_next) in
-    (suc count, later, omega (arith, marks), more_opening (suc count) first next said is_next is_said)
+    (suc count, later, more_opening (suc count) first next said is_next is_said)
 
 pub says_opened : (phase : Phase) (next : ℕ) (said : List Command) → Opens phase → SaysIn phase next said → SaysIn (Open []) next said
 says_opened Down next said opening says = absurd says
 says_opened (Open flight) next said opening says = absurd opening
-says_opened (Opening first) next said opening (count, is_next, few, is_said) =
-    (first, count, said, [], omega (arith, is_next, few), is_said, tt, tt, sym (append-nil (said ++ []) ∙ append-nil said))
+says_opened (Opening first) next said opening (count, is_next, is_said) =
+    (first, count, said, [], is_said, tt, tt, sym (append-nil (said ++ []) ∙ append-nil said))
 
 -- One more request, while nothing is in flight.
 asked_one : (next : ℕ) (part : Part) (c : Command) (said : List Command) → said_by part ≡ c ∷ [] → IsPart part → SaysIn (Open []) next said → SaysIn (Open []) next (said ++ c ∷ [])
-asked_one next part c said one known (first, count, opening, parts, few, opens, each, none, is_said) =
+asked_one next part c said one known (first, count, opening, parts, opens, each, none, is_said) =
     let before = flat_map said_by parts in (
       first,
       count,
       opening,
       parts ++ part ∷ [],
-      few,
       opens,
       all_joined IsPart parts (part ∷ []) each (known, tt),
       tt,
@@ -82,13 +81,12 @@ says_asked_reports phase next said ready says = says_part phase next AskedReport
 
 submitted_one : (next later : ℕ) (said : List Command) (flight : List InFlight) (p : InFlight) → IsSent p → SaysIn (Open flight) next said
     → SaysIn (Open (flight ++ p ∷ [])) later (said ++ framed p)
-submitted_one next later said flight p whole (first, count, opening, parts, few, opens, each, sent_each, is_said) =
+submitted_one next later said flight p whole (first, count, opening, parts, opens, each, sent_each, is_said) =
     let before = opening ++ flat_map said_by parts in (
       first,
       count,
       opening,
       parts,
-      few,
       opens,
       each,
       all_joined IsSent flight (p ∷ []) sent_each (whole, tt),
@@ -101,14 +99,13 @@ pub says_submitted : (phase : Phase) (next later : ℕ) (said : List Command) (f
 says_submitted phase next later said flight p open_phase whole says = submitted_one next later said flight p whole (subst (λ f. SaysIn f next said) open_phase says)
 
 recorded_one : (next : ℕ) (said : List Command) (p : InFlight) (ps : List InFlight) → SaysIn (Open (p ∷ ps)) next said → SaysIn (Open ps) next said
-recorded_one next said p ps (first, count, opening, parts, few, opens, each, sent_each, is_said) =
+recorded_one next said p ps (first, count, opening, parts, opens, each, sent_each, is_said) =
     let before = flat_map said_by parts in
     let rest = flat_map framed ps in (
       first,
       count,
       opening,
       parts ++ Sent p ∷ [],
-      few,
       opens,
       all_joined IsPart parts (Sent p ∷ []) each (sent_each.0, tt),
       sent_each.1,
@@ -127,7 +124,7 @@ says_recorded phase next said before p ps open_phase says = recorded_all next sa
 -- One more byte is heard.
 says_turned : (h after : HostView) (a : Answer) (e : HostEvent) (out : List ℕ) (said : List Command) → after.phase ≢ Down → Talks h out said → Turns h a e after → Talks after out said
 says_turned h after a event.None out said up talks turns = subst (λ v. Talks v out said) (sym turns.1) talks
-says_turned h after a event.Opened out said up talks (first, id, is_first, is_mark, is_opening, same) =
+says_turned h after a event.Opened out said up talks (first, n, id, is_first, is_mark, is_opening, same) =
     subst (λ v. Talks v out said) (sym same)
     (record { says = says_opened h.phase h.next said (subst Opens (sym is_first) tt) talks.says; whole = talks.whole })
 says_turned h after a (event.Recorded number) out said up talks (id, is_mark, r) = elim r.way [
@@ -136,7 +133,9 @@ says_turned h after a (event.Recorded number) out said up talks (id, is_mark, r)
       (record { says = says_recorded h.phase h.next said r.before r.last r.others (is_open ∙ ap Open f.all_are) talks.says; whole = talks.whole })
   | inr (first, opening, other, f, same) ↦ subst (λ v. Talks v out said) (sym same) (record { says = talks.says; whole = talks.whole })
 ]
-says_turned h after a (event.Late id) out said up talks (first, phase, is, other, unleft, same) = subst (λ v. Talks v out said) (sym same) talks
+says_turned h after a (event.Late id) out said up talks (first, phase, is, other, unleft, inl (n, of_it, same)) =
+    subst (λ v. Talks v out said) (sym same) (record { says = talks.says; whole = talks.whole })
+says_turned h after a (event.Late id) out said up talks (first, phase, is, other, unleft, inr (none, same)) = subst (λ v. Talks v out said) (sym same) talks
 says_turned h after a (event.Status byte) out said up talks turns = subst (λ v. Talks v out said) (sym turns.1) talks
 says_turned h after a (event.Condition block) out said up talks turns = subst (λ v. Talks v out said) (sym turns.1) talks
 says_turned h after a (event.BadAnswer place) out said up talks turns = absurd turns

@@ -13,8 +13,8 @@ use Rattle.escpos_host.specs.Kept.{AreMarks, FitsStage, IsConsistent, pairs, put
 use Rattle.escpos_command.specs.declared.command.Command.TheVariants as kind
 use Rattle.escpos_command.specs.Answers.{HalfAnswer}
 use Rattle.escpos_command.specs.CommandTable.{row, spell}
-use Rattle.escpos_command.specs.Digits.{mark_count, mark_of}
-use Rattle.escpos_host.specs.Machine.{HostView, InFlight, IsSound, Phase, Down, Opening, Open, state_of, ask_reports, linked_by, nudged, gone_down, receipts_of, taken_out, handed_out, submitted, with_left}
+use Rattle.escpos_host.specs.Counted.{id_of}
+use Rattle.escpos_host.specs.Machine.{HostView, InFlight, IsSound, Phase, Down, Opening, Open, state_of, ask_reports, closed_by, linked_by, nudged, gone_down, number_limit, receipts_of, taken_out, handed_out, submitted, with_left}
 use Rattle.escpos_host.specs.Out.{IsPlaced, Pending, Within, opening_commands, unsent, part_commands}
 use Rattle.escpos_host.specs.declared.outbox.OutPart.TheVariants as part
 use Rattle.escpos_host.proofs.AnswerFronts.{same_number}
@@ -42,7 +42,7 @@ pairs_front : (rs : List (List Command)) (ns : List ℕ) → pairs (take (length
 pairs_front [] [] = refl
 pairs_front (r ∷ rs) [] = refl
 pairs_front [] (n ∷ ns) = refl
-pairs_front (r ∷ rs) (n ∷ ns) = ap (λ ps. record { receipt = r; mark = mark_of n } ∷ ps) (pairs_front rs ns)
+pairs_front (r ∷ rs) (n ∷ ns) = ap (λ ps. closed_by r n ∷ ps) (pairs_front rs ns)
 
 pairs_rest : (rs : List (List Command)) (ns : List ℕ) → pairs (drop 1 rs) (drop 1 ns) ≡ drop 1 (pairs rs ns)
 pairs_rest [] ns = refl
@@ -69,11 +69,11 @@ same_records receipts others recorded marks same =
 
 -- One more pair.
 pairs-snoc : (rs : List (List Command)) (ns : List ℕ) (r : List Command) (n : ℕ) → length rs ≡ length ns
-    → pairs (rs ++ r ∷ []) (ns ++ n ∷ []) ≡ pairs rs ns ++ record { receipt = r; mark = mark_of n } ∷ []
+    → pairs (rs ++ r ∷ []) (ns ++ n ∷ []) ≡ pairs rs ns ++ closed_by r n ∷ []
 pairs-snoc [] [] r n same = refl
 pairs-snoc [] (m ∷ ns) r n same = absurd (omega (arith, same))
 pairs-snoc (q ∷ rs) [] r n same = absurd (omega (arith, same))
-pairs-snoc (q ∷ rs) (m ∷ ns) r n same = ap (λ ps. record { receipt = q; mark = mark_of m } ∷ ps) (pairs-snoc rs ns r n (omega (arith, same)))
+pairs-snoc (q ∷ rs) (m ∷ ns) r n same = ap (λ ps. closed_by q m ∷ ps) (pairs-snoc rs ns r n (omega (arith, same)))
 
 pub length-pairs : (rs : List (List Command)) (ns : List ℕ) → length ns ≤ length rs → length (pairs rs ns) ≡ length ns
 length-pairs rs [] few = ap length (pairs_none rs)
@@ -99,10 +99,10 @@ first_pair (r ∷ rs) (n ∷ ns) some few = refl
 -- ## A new host, and what holds for each
 
 -- A host with no link, of whose receipts all are recorded.
-pub at_rest : (receipts : List (List Command)) (recorded : ℕ) (marks left : List ℕ) (out : Pending) (half : List ℕ) (next : ℕ) → recorded ≡ length receipts
+pub at_rest : (receipts : List (List Command)) (recorded : ℕ) (marks left : List ℕ) (out : Pending) (half : List ℕ) (next heard : ℕ) → recorded ≡ length receipts
     → left ≡ [] → ((rs : List (List Command)) → unsent rs out ≡ []) → half ≡ []
-    → view_of stage.Down receipts recorded marks left out half next ≡ record { phase = Down; out = []; half = []; next = next; records = receipts; left = [] }
-at_rest receipts recorded marks left out half next all no_left none no_half =
+    → view_of stage.Down receipts recorded marks left out half next heard ≡ record { phase = Down; out = []; half = []; next = next; heard = heard; records = receipts; left = [] }
+at_rest receipts recorded marks left out half next heard all no_left none no_half =
     let kept : take recorded receipts ≡ receipts = take_all recorded receipts (omega (arith, all)) in
     let rest : pairs (drop (recorded + length marks) receipts) left ≡ [] = ap (pairs (drop (recorded + length marks) receipts)) no_left ∙ pairs_none _ in
     cc (kept, rest, none (put_of receipts recorded marks), no_half)
@@ -128,11 +128,11 @@ not_empty true kept shown same h = (λ e. absurd (let bad : false ≡ true = e i
 not_empty false kept shown same h = (λ e none. let bad : false ≡ true = h.1 (same ∙ none) in cc, λ e. refl)
 
 -- A host with a stage that isn't Down has a link.
-pub is_up : (s : Stage) (receipts : List (List Command)) (recorded : ℕ) (marks left : List ℕ) (out : Pending) (half : List ℕ) (next : ℕ)
-    → s ≢ stage.Down → (view_of s receipts recorded marks left out half next).phase ≢ Down
-is_up stage.Down receipts recorded marks left out half next up e = up refl
-is_up (stage.Opening first) receipts recorded marks left out half next up e = cc e
-is_up stage.Open receipts recorded marks left out half next up e = cc e
+pub is_up : (s : Stage) (receipts : List (List Command)) (recorded : ℕ) (marks left : List ℕ) (out : Pending) (half : List ℕ) (next heard : ℕ)
+    → s ≢ stage.Down → (view_of s receipts recorded marks left out half next heard).phase ≢ Down
+is_up stage.Down receipts recorded marks left out half next heard up e = up refl
+is_up (stage.Opening first) receipts recorded marks left out half next heard up e = cc e
+is_up stage.Open receipts recorded marks left out half next heard up e = cc e
 
 -- No more receipts are recorded than there are.
 pub few_recorded : (s : Stage) (receipts : List (List Command)) (recorded : ℕ) (marks left : List ℕ) (out : Pending) (half : List ℕ)
@@ -148,58 +148,58 @@ pub enough_left : (s : Stage) (receipts : List (List Command)) (recorded : ℕ) 
     → IsConsistent s receipts recorded marks left out half → length left ≡ length (drop (recorded + length marks) receipts)
 enough_left s receipts recorded marks left out half fits = omega (arith, fits.count, length-drop (recorded + length marks) receipts)
 
-pub sound : (s : Stage) (receipts : List (List Command)) (recorded : ℕ) (marks left : List ℕ) (out : Pending) (half : List ℕ) (next : ℕ)
+pub sound : (s : Stage) (receipts : List (List Command)) (recorded : ℕ) (marks left : List ℕ) (out : Pending) (half : List ℕ) (next heard : ℕ)
     → IsConsistent s receipts recorded marks left out half → length marks ≤ 4 → length left ≤ 4 → (half ≡ []) ⊎ HalfAnswer half
-    → IsSound (view_of s receipts recorded marks left out half next)
-sound stage.Down receipts recorded marks left out half next fits few few_left heard = record {
+    → IsSound (view_of s receipts recorded marks left out half next heard)
+sound stage.Down receipts recorded marks left out half next heard fits few few_left answer_half = record {
   quiet = λ e. ((fits.stage.1 (put_of receipts recorded marks)).1, fits.stage.2);
   few = omega arith;
   few_left = let most = pairs_few (drop (recorded + length marks) receipts) left in omega (arith, most, few_left);
-  half = heard;
+  half = answer_half;
 }
-sound (stage.Opening first) receipts recorded marks left out half next fits few few_left heard = record {
+sound (stage.Opening first) receipts recorded marks left out half next heard fits few few_left answer_half = record {
   quiet = λ e. absurd (cc e);
   few = omega arith;
   few_left = let most = pairs_few (drop (recorded + length marks) receipts) left in omega (arith, most, few_left);
-  half = heard;
+  half = answer_half;
 }
-sound stage.Open receipts recorded marks left out half next fits few few_left heard = record {
+sound stage.Open receipts recorded marks left out half next heard fits few few_left answer_half = record {
   quiet = λ e. absurd (cc e);
   few = let most = pairs_few (drop recorded receipts) marks in let all = length_receipts (pairs (drop recorded receipts) marks) in omega (arith, most, all, few);
   few_left = let most = pairs_few (drop (recorded + length marks) receipts) left in omega (arith, most, few_left);
-  half = heard;
+  half = answer_half;
 }
 
 -- ## What the calls leave
 
 -- The fields of a view, one by one.
-abbrev shown : Phase → List ℕ → List ℕ → ℕ → List (List Command) → List InFlight → HostView
-shown phase out half next records left = record { phase = phase; out = out; half = half; next = next; records = records; left = left }
+abbrev shown : Phase → List ℕ → List ℕ → ℕ → ℕ → List (List Command) → List InFlight → HostView
+shown phase out half next heard records left = record { phase = phase; out = out; half = half; next = next; heard = heard; records = records; left = left }
 
-same_views : (p q : Phase) (out other half other_half : List ℕ) (next : ℕ) (records others : List (List Command)) (rest rest_too : List InFlight)
-    → p ≡ q → out ≡ other → half ≡ other_half → records ≡ others → rest ≡ rest_too → shown p out half next records rest ≡ shown q other other_half next others rest_too
-same_views p q out other half other_half next records others rest rest_too d e f g h = cc (d, e, f, g, h)
+same_views : (p q : Phase) (out other half other_half : List ℕ) (next heard : ℕ) (records others : List (List Command)) (rest rest_too : List InFlight)
+    → p ≡ q → out ≡ other → half ≡ other_half → records ≡ others → rest ≡ rest_too → shown p out half next heard records rest ≡ shown q other other_half next heard others rest_too
+same_views p q out other half other_half next heard records others rest rest_too d e f g h = cc (d, e, f, g, h)
 
 one_row : (c : Command) → spell (c ∷ []) ≡ row c
 one_row c = append-nil (row c)
 
 -- A link that comes up.
-opening_bytes : (reporting : Bool) (next : ℕ) (h : HostView) → h.next ≡ next → spell (opening_commands reporting (mark_of next)) ≡ (linked_by reporting h).out
-opening_bytes true next h is = ap (λ v. row ask_reports ++ v) (one_row (kind.Mark (mark_of next)) ∙ ap (λ n. row (kind.Mark (mark_of n))) (sym is))
-opening_bytes false next h is = one_row (kind.Mark (mark_of next)) ∙ ap (λ n. row (kind.Mark (mark_of n))) (sym is)
+opening_bytes : (reporting : Bool) (next : ℕ) (h : HostView) → h.next ≡ next → spell (opening_commands reporting (id_of next)) ≡ (linked_by reporting h).out
+opening_bytes true next h is = ap (λ v. row ask_reports ++ v) (one_row (kind.Mark (id_of next)) ∙ ap (λ n. row (kind.Mark (id_of n))) (sym is))
+opening_bytes false next h is = one_row (kind.Mark (id_of next)) ∙ ap (λ n. row (kind.Mark (id_of n))) (sym is)
 
 linked_so : (reporting : Bool) (h : HostView)
-    → record { phase = Opening h.next; out = (linked_by reporting h).out; half = []; next = h.next + 1; records = h.records; left = h.left } ≡ linked_by reporting h
+    → record { phase = Opening h.next; out = (linked_by reporting h).out; half = []; next = h.next + 1; heard = h.heard; records = h.records; left = h.left } ≡ linked_by reporting h
 linked_so true h = refl
 linked_so false h = refl
 
-pub comes_up : (reporting : Bool) (receipts : List (List Command)) (recorded : ℕ) (marks left : List ℕ) (out fresh : Pending) (half : List ℕ) (next : ℕ) (id : List ℕ)
-    → IsConsistent stage.Down receipts recorded marks left out half → id ≡ mark_of next
+pub comes_up : (reporting : Bool) (receipts : List (List Command)) (recorded : ℕ) (marks left : List ℕ) (out fresh : Pending) (half : List ℕ) (next heard : ℕ) (id : List ℕ)
+    → IsConsistent stage.Down receipts recorded marks left out half → id ≡ id_of next
     → unsent (put_of receipts recorded marks) fresh ≡ unsent (put_of receipts recorded marks) out ++ spell (opening_commands reporting id)
-    → view_of (stage.Opening next) receipts recorded marks left fresh half (next + 1) ≡ linked_by reporting (view_of stage.Down receipts recorded marks left out half next)
-comes_up reporting receipts recorded marks left out fresh half next id fits is_id put =
-    let before = view_of stage.Down receipts recorded marks left out half next in
-    same_views (Opening next) (Opening next) (unsent (put_of receipts recorded marks) fresh) (linked_by reporting before).out half [] (next + 1) _ _ _ _ refl
+    → view_of (stage.Opening next) receipts recorded marks left fresh half (next + 1) heard ≡ linked_by reporting (view_of stage.Down receipts recorded marks left out half next heard)
+comes_up reporting receipts recorded marks left out fresh half next heard id fits is_id put =
+    let before = view_of stage.Down receipts recorded marks left out half next heard in
+    same_views (Opening next) (Opening next) (unsent (put_of receipts recorded marks) fresh) (linked_by reporting before).out half [] (next + 1) heard _ _ _ _ refl
     (put ∙ ap (λ v. v ++ spell (opening_commands reporting id)) (fits.stage.1 (put_of receipts recorded marks)).1
     ∙ ap (λ i. spell (opening_commands reporting i)) is_id ∙ opening_bytes reporting next before refl) fits.stage.2 refl refl
     ∙ linked_so reporting before
@@ -211,21 +211,21 @@ fits_with s t receipts recorded marks left out fresh half fits within stage =
     record { count = fits.count; closing = fits.closing; closing_left = fits.closing_left; within = within; stage = stage }
 
 -- One more opening mark.
-pub is_nudged : (receipts : List (List Command)) (recorded : ℕ) (marks left : List ℕ) (first : ℕ) (out fresh : Pending) (half : List ℕ) (next : ℕ) (id : List ℕ)
-    → id ≡ mark_of next → unsent (put_of receipts recorded marks) fresh ≡ unsent (put_of receipts recorded marks) out ++ spell (kind.Mark id ∷ [])
-    → view_of (stage.Opening first) receipts recorded marks left fresh half (next + 1) ≡ nudged (view_of (stage.Opening first) receipts recorded marks left out half next)
-is_nudged receipts recorded marks left first out fresh half next id is_id put =
+pub is_nudged : (receipts : List (List Command)) (recorded : ℕ) (marks left : List ℕ) (first : ℕ) (out fresh : Pending) (half : List ℕ) (next heard : ℕ) (id : List ℕ)
+    → id ≡ id_of next → unsent (put_of receipts recorded marks) fresh ≡ unsent (put_of receipts recorded marks) out ++ spell (kind.Mark id ∷ [])
+    → view_of (stage.Opening first) receipts recorded marks left fresh half (next + 1) heard ≡ nudged (view_of (stage.Opening first) receipts recorded marks left out half next heard)
+is_nudged receipts recorded marks left first out fresh half next heard id is_id put =
     let bytes = unsent (put_of receipts recorded marks) out in
-    same_views (Opening first) (Opening first) (unsent (put_of receipts recorded marks) fresh) (bytes ++ row (kind.Mark (mark_of next))) half half (next + 1) _ _ _ _ refl
+    same_views (Opening first) (Opening first) (unsent (put_of receipts recorded marks) fresh) (bytes ++ row (kind.Mark (id_of next))) half half (next + 1) heard _ _ _ _ refl
     (put ∙ ap (λ v. bytes ++ v) (one_row (kind.Mark id) ∙ ap (λ i. row (kind.Mark i)) is_id)) refl refl refl
 
 -- An open link that goes down leaves what was in flight.
-pub open_goes_down : (receipts : List (List Command)) (recorded : ℕ) (marks left none : List ℕ) (out cleared : Pending) (half no_half : List ℕ) (next : ℕ)
+pub open_goes_down : (receipts : List (List Command)) (recorded : ℕ) (marks left none : List ℕ) (out cleared : Pending) (half no_half : List ℕ) (next heard : ℕ)
     → none ≡ [] → ((rs : List (List Command)) → unsent rs cleared ≡ []) → no_half ≡ []
-    → view_of stage.Down (put_of receipts recorded marks) recorded none marks cleared no_half next ≡ gone_down (view_of stage.Open receipts recorded marks left out half next)
-open_goes_down receipts recorded marks left none out cleared half no_half next nothing empty no_more =
+    → view_of stage.Down (put_of receipts recorded marks) recorded none marks cleared no_half next heard ≡ gone_down (view_of stage.Open receipts recorded marks left out half next heard)
+open_goes_down receipts recorded marks left none out cleared half no_half next heard nothing empty no_more =
     let same : recorded + length none ≡ recorded = omega (arith, ap length nothing) in
-    same_views Down Down _ [] no_half [] next _ _ _ _ refl (empty (put_of (put_of receipts recorded marks) recorded none)) no_more (recorded_put receipts recorded marks)
+    same_views Down Down _ [] no_half [] next heard _ _ _ _ refl (empty (put_of (put_of receipts recorded marks) recorded none)) no_more (recorded_put receipts recorded marks)
     (ap (λ n. pairs (drop n (put_of receipts recorded marks)) marks) same ∙ flight_put receipts recorded marks)
 
 pub fits_open_down : (receipts : List (List Command)) (recorded : ℕ) (marks left none : List ℕ) (out cleared : Pending) (half no_half : List ℕ)
@@ -240,14 +240,14 @@ fits_open_down receipts recorded marks left none out cleared half no_half fits n
 }
 
 -- Another link that goes down leaves what was left before.
-pub other_goes_down : (s : Stage) (receipts : List (List Command)) (recorded : ℕ) (marks left : List ℕ) (out cleared : Pending) (half no_half : List ℕ) (next : ℕ)
+pub other_goes_down : (s : Stage) (receipts : List (List Command)) (recorded : ℕ) (marks left : List ℕ) (out cleared : Pending) (half no_half : List ℕ) (next heard : ℕ)
     → s ≢ stage.Open → ((rs : List (List Command)) → unsent rs cleared ≡ []) → no_half ≡ []
-    → view_of stage.Down receipts recorded marks left cleared no_half next ≡ gone_down (view_of s receipts recorded marks left out half next)
-other_goes_down stage.Down receipts recorded marks left out cleared half no_half next other empty no_more =
-    same_views Down Down _ [] no_half [] next _ _ _ _ refl (empty (put_of receipts recorded marks)) no_more refl refl
-other_goes_down (stage.Opening first) receipts recorded marks left out cleared half no_half next other empty no_more =
-    same_views Down Down _ [] no_half [] next _ _ _ _ refl (empty (put_of receipts recorded marks)) no_more refl refl
-other_goes_down stage.Open receipts recorded marks left out cleared half no_half next other empty no_more = absurd (other refl)
+    → view_of stage.Down receipts recorded marks left cleared no_half next heard ≡ gone_down (view_of s receipts recorded marks left out half next heard)
+other_goes_down stage.Down receipts recorded marks left out cleared half no_half next heard other empty no_more =
+    same_views Down Down _ [] no_half [] next heard _ _ _ _ refl (empty (put_of receipts recorded marks)) no_more refl refl
+other_goes_down (stage.Opening first) receipts recorded marks left out cleared half no_half next heard other empty no_more =
+    same_views Down Down _ [] no_half [] next heard _ _ _ _ refl (empty (put_of receipts recorded marks)) no_more refl refl
+other_goes_down stage.Open receipts recorded marks left out cleared half no_half next heard other empty no_more = absurd (other refl)
 
 pub fits_other_down : (s : Stage) (receipts : List (List Command)) (recorded : ℕ) (marks left : List ℕ) (out cleared : Pending) (half no_half : List ℕ)
     → IsConsistent s receipts recorded marks left out half → s ≢ stage.Open → ((rs : List (List Command)) → Within rs cleared × (unsent rs cleared ≡ [])) → no_half ≡ []
@@ -284,10 +284,10 @@ failed (Ok x) e h = absurd cc
 failed (Err d) e h = h
 
 -- Bytes are taken out, and nothing else changes.
-pub is_taken : (s : Stage) (receipts : List (List Command)) (recorded : ℕ) (marks left : List ℕ) (out rest : Pending) (half : List ℕ) (next count : ℕ)
+pub is_taken : (s : Stage) (receipts : List (List Command)) (recorded : ℕ) (marks left : List ℕ) (out rest : Pending) (half : List ℕ) (next heard count : ℕ)
     → unsent (put_of receipts recorded marks) rest ≡ drop count (unsent (put_of receipts recorded marks) out)
-    → view_of s receipts recorded marks left rest half next ≡ taken_out (view_of s receipts recorded marks left out half next) count
-is_taken s receipts recorded marks left out rest half next count e = same_views _ _ (unsent (put_of receipts recorded marks) rest) _ half half next _ _ _ _ refl e refl refl refl
+    → view_of s receipts recorded marks left rest half next heard ≡ taken_out (view_of s receipts recorded marks left out half next heard) count
+is_taken s receipts recorded marks left out rest half next heard count e = same_views _ _ (unsent (put_of receipts recorded marks) rest) _ half half next heard _ _ _ _ refl e refl refl refl
 
 -- ## What is left
 
@@ -310,21 +310,21 @@ take-remove n xs h =
 length-remove : {X : Type 0} (n : ℕ) (xs : List X) → n < length xs → length (remove xs n) + 1 ≡ length xs
 length-remove n xs h = omega (arith, h, length-append (take n xs) (drop (suc n) xs), length-take n xs, length-drop (suc n) xs)
 
-phases : (s : Stage) (receipts others : List (List Command)) (recorded : ℕ) (marks left fewer : List ℕ) (out rest : Pending) (half : List ℕ) (next : ℕ)
+phases : (s : Stage) (receipts others : List (List Command)) (recorded : ℕ) (marks left fewer : List ℕ) (out rest : Pending) (half : List ℕ) (next heard : ℕ)
     → pairs (drop recorded others) marks ≡ pairs (drop recorded receipts) marks
-    → (view_of s others recorded marks left out half next).phase ≡ (view_of s receipts recorded marks fewer rest half next).phase
-phases stage.Down receipts others recorded marks left fewer out rest half next same = refl
-phases (stage.Opening first) receipts others recorded marks left fewer out rest half next same = refl
-phases stage.Open receipts others recorded marks left fewer out rest half next same = ap Open same
+    → (view_of s others recorded marks left out half next heard).phase ≡ (view_of s receipts recorded marks fewer rest half next heard).phase
+phases stage.Down receipts others recorded marks left fewer out rest half next heard same = refl
+phases (stage.Opening first) receipts others recorded marks left fewer out rest half next heard same = refl
+phases stage.Open receipts others recorded marks left fewer out rest half next heard same = ap Open same
 
 -- The first receipt of those that are left is handed out.
-pub without_first : (s : Stage) (receipts others : List (List Command)) (recorded : ℕ) (marks left fewer : List ℕ) (out : Pending) (half : List ℕ) (next : ℕ)
+pub without_first : (s : Stage) (receipts others : List (List Command)) (recorded : ℕ) (marks left fewer : List ℕ) (out : Pending) (half : List ℕ) (next heard : ℕ)
     → recorded + length marks < length receipts → others ≡ remove receipts (recorded + length marks) → fewer ≡ drop 1 left
-    → view_of s others recorded marks fewer out half next ≡ handed_out (view_of s receipts recorded marks left out half next)
-without_first s receipts others recorded marks left fewer out half next some gone rest =
+    → view_of s others recorded marks fewer out half next heard ≡ handed_out (view_of s receipts recorded marks left out half next heard)
+without_first s receipts others recorded marks left fewer out half next heard some gone rest =
     let n = recorded + length marks in
     let put : put_of others recorded marks ≡ put_of receipts recorded marks = ap (take n) gone ∙ take-remove n receipts some in
-    same_views _ _ _ _ half half next _ _ _ _ (phases s receipts others recorded marks fewer left out out half next (same_flight receipts others recorded marks put))
+    same_views _ _ _ _ half half next heard _ _ _ _ (phases s receipts others recorded marks fewer left out out half next heard (same_flight receipts others recorded marks put))
     (ap (λ rs. unsent rs out) put) refl (same_records receipts others recorded marks put)
     (ap (λ rs. pairs rs fewer) (ap (drop n) gone ∙ drop-remove n receipts some) ∙ ap (pairs (drop 1 (drop n receipts))) rest ∙ pairs_rest (drop n receipts) left)
 
@@ -348,13 +348,13 @@ fits_without_first s receipts others recorded marks left fewer out half fits som
     }
 
 -- All of them are dropped.
-pub without_left : (s : Stage) (receipts : List (List Command)) (recorded : ℕ) (marks left none : List ℕ) (out : Pending) (half : List ℕ) (next : ℕ) → none ≡ []
-    → view_of s (put_of receipts recorded marks) recorded marks none out half next ≡ with_left (view_of s receipts recorded marks left out half next) []
-without_left s receipts recorded marks left none out half next nothing =
+pub without_left : (s : Stage) (receipts : List (List Command)) (recorded : ℕ) (marks left none : List ℕ) (out : Pending) (half : List ℕ) (next heard : ℕ) → none ≡ []
+    → view_of s (put_of receipts recorded marks) recorded marks none out half next heard ≡ with_left (view_of s receipts recorded marks left out half next heard) []
+without_left s receipts recorded marks left none out half next heard nothing =
     let n = recorded + length marks in
     let put : put_of (put_of receipts recorded marks) recorded marks ≡ put_of receipts recorded marks = take-take n n receipts (omega arith) in
-    same_views _ _ _ _ half half next _ _ _ _
-    (phases s receipts (put_of receipts recorded marks) recorded marks none left out out half next (same_flight receipts (put_of receipts recorded marks) recorded marks put))
+    same_views _ _ _ _ half half next heard _ _ _ _
+    (phases s receipts (put_of receipts recorded marks) recorded marks none left out out half next heard (same_flight receipts (put_of receipts recorded marks) recorded marks put))
     (ap (λ rs. unsent rs out) put) refl (same_records receipts (put_of receipts recorded marks) recorded marks put)
     (ap (pairs (drop n (put_of receipts recorded marks))) nothing ∙ pairs_none _)
 
@@ -417,13 +417,13 @@ put_with receipts recorded marks r next few =
 pub length-put : (receipts : List (List Command)) (recorded : ℕ) (marks : List ℕ) → recorded + length marks ≤ length receipts → length (put_of receipts recorded marks) ≡ recorded + length marks
 length-put receipts recorded marks few = omega (arith, few, length-take (recorded + length marks) receipts)
 
-pub is_submitted : (receipts : List (List Command)) (recorded : ℕ) (marks left : List ℕ) (out fresh : Pending) (half : List ℕ) (next : ℕ) (r : List Command) (id : List ℕ)
-    → IsConsistent stage.Open receipts recorded marks left out half → id ≡ mark_of next
+pub is_submitted : (receipts : List (List Command)) (recorded : ℕ) (marks left : List ℕ) (out fresh : Pending) (half : List ℕ) (next heard : ℕ) (r : List Command) (id : List ℕ)
+    → IsConsistent stage.Open receipts recorded marks left out half → id ≡ id_of next
     → unsent (put_of receipts recorded marks ++ r ∷ []) fresh
     ≡ unsent (put_of receipts recorded marks ++ r ∷ []) out ++ spell (part_commands (put_of receipts recorded marks ++ r ∷ []) (part.Receipt (recorded + length marks) id))
-    → view_of stage.Open (insert receipts (recorded + length marks) r) recorded (marks ++ next ∷ []) left fresh half (next + 1)
-    ≡ submitted (view_of stage.Open receipts recorded marks left out half next) (pairs (drop recorded receipts) marks) r
-is_submitted receipts recorded marks left out fresh half next r id fits is_id put =
+    → view_of stage.Open (insert receipts (recorded + length marks) r) recorded (marks ++ next ∷ []) left fresh half (next + 1) heard
+    ≡ submitted (view_of stage.Open receipts recorded marks left out half next heard) (pairs (drop recorded receipts) marks) r
+is_submitted receipts recorded marks left out fresh half next heard r id fits is_id put =
     let n = recorded + length marks in
     let all = insert receipts n r in
     let before = put_of receipts recorded marks in
@@ -431,12 +431,12 @@ is_submitted receipts recorded marks left out fresh half next r id fits is_id pu
     let long : length before ≡ n = length-put receipts recorded marks few in
     let more : put_of all recorded (marks ++ next ∷ []) ≡ before ++ r ∷ [] = put_with receipts recorded marks r next few in
     let flying : length (drop recorded before) ≡ length marks = omega (arith, long, length-drop recorded before) in
-    let flight : pairs (drop recorded all) (marks ++ next ∷ []) ≡ pairs (drop recorded receipts) marks ++ record { receipt = r; mark = mark_of next } ∷ [] =
+    let flight : pairs (drop recorded all) (marks ++ next ∷ []) ≡ pairs (drop recorded receipts) marks ++ closed_by r next ∷ [] =
     sym (flight_put all recorded (marks ++ next ∷ [])) ∙ ap (λ rs. pairs (drop recorded rs) (marks ++ next ∷ [])) more
     ∙ ap (λ rs. pairs rs (marks ++ next ∷ [])) (drop-append-le recorded before (r ∷ []) (omega (arith, long)))
     ∙ pairs-snoc (drop recorded before) marks r next flying
-    ∙ ap (λ ps. ps ++ record { receipt = r; mark = mark_of next } ∷ []) (flight_put receipts recorded marks) in
-    let bytes : unsent (put_of all recorded (marks ++ next ∷ [])) fresh ≡ unsent before out ++ spell (kind.Init ∷ (r ++ kind.Mark (mark_of next) ∷ [])) =
+    ∙ ap (λ ps. ps ++ closed_by r next ∷ []) (flight_put receipts recorded marks) in
+    let bytes : unsent (put_of all recorded (marks ++ next ∷ [])) fresh ≡ unsent before out ++ spell (kind.Init ∷ (r ++ kind.Mark (id_of next) ∷ [])) =
     ap (λ rs. unsent rs fresh) more ∙ put ∙ ap (λ v. v ++ spell (part_commands (before ++ r ∷ []) (part.Receipt n id))) (more_receipts before (r ∷ []) out fits.within).0
     ∙ ap (λ q. unsent before out ++ spell (kind.Init ∷ (q ++ kind.Mark id ∷ []))) (ap (λ k. get_or (before ++ r ∷ []) k []) (sym long) ∙ last_of before r)
     ∙ ap (λ i. unsent before out ++ spell (kind.Init ∷ (r ++ kind.Mark i ∷ []))) is_id in
@@ -444,16 +444,16 @@ is_submitted receipts recorded marks left out fresh half next r id fits is_id pu
     sym (recorded_put all recorded (marks ++ next ∷ [])) ∙ ap (take recorded) more ∙ take-append-le recorded before (r ∷ []) (omega (arith, long)) ∙ recorded_put receipts recorded marks in
     let others : drop (recorded + length (marks ++ next ∷ [])) all ≡ drop n receipts =
     ap (λ k. drop k all) (let step : recorded + length (marks ++ next ∷ []) ≡ suc n = omega (arith, length-append marks (next ∷ [])) in step) ∙ drop-insert n receipts r few in
-    same_views _ _ _ _ half half (next + 1) _ _ _ _ (ap Open flight) bytes refl records (ap (λ rs. pairs rs left) others)
+    same_views _ _ _ _ half half (next + 1) heard _ _ _ _ (ap Open flight) bytes refl records (ap (λ rs. pairs rs left) others)
 
-all_with_last : (ns : List ℕ) (n : ℕ) → AreMarks ns → n < mark_count → AreMarks (ns ++ n ∷ [])
+all_with_last : (ns : List ℕ) (n : ℕ) → AreMarks ns → n < number_limit → AreMarks (ns ++ n ∷ [])
 all_with_last [] n all some = (some, all)
 all_with_last (m ∷ ns) n all some = (all.0, all_with_last ns n all.1 some)
 
 -- What is kept fits together after a receipt was submitted.
 pub fits_submitted : (receipts : List (List Command)) (recorded : ℕ) (marks left : List ℕ) (out fresh : Pending) (half : List ℕ) (next : ℕ) (r : List Command) (id : List ℕ)
     → IsConsistent stage.Open receipts recorded marks left out half
-    → ((rs : List (List Command)) → Within rs out → IsPlaced rs (part.Receipt (recorded + length marks) id) → Within rs fresh) → next < mark_count
+    → ((rs : List (List Command)) → Within rs out → IsPlaced rs (part.Receipt (recorded + length marks) id) → Within rs fresh) → next < number_limit
     → IsConsistent stage.Open (insert receipts (recorded + length marks) r) recorded (marks ++ next ∷ []) left fresh half
 fits_submitted receipts recorded marks left out fresh half next r id fits within some =
     let n = recorded + length marks in
@@ -472,18 +472,18 @@ fits_submitted receipts recorded marks left out fresh half next r id fits within
 -- ## An open link
 
 -- A host whose link is open: what it keeps fits together, and this is its model.
-pub record OpenHost (receipts : List (List Command)) (recorded : ℕ) (marks left : List ℕ) (out : Pending) (half : List ℕ) (next : ℕ) (h : HostView) : Type 0 where
+pub record OpenHost (receipts : List (List Command)) (recorded : ℕ) (marks left : List ℕ) (out : Pending) (half : List ℕ) (next heard : ℕ) (h : HostView) : Type 0 where
   pub fits : IsConsistent stage.Open receipts recorded marks left out half
-  pub is : view_of stage.Open receipts recorded marks left out half next ≡ h
+  pub is : view_of stage.Open receipts recorded marks left out half next heard ≡ h
   pub phase : h.phase ≡ Open (pairs (drop recorded receipts) marks)
   pub long : length (pairs (drop recorded receipts) marks) ≡ length marks
 
-pub open_host : (s : Stage) (receipts : List (List Command)) (recorded : ℕ) (marks left : List ℕ) (out : Pending) (half : List ℕ) (next : ℕ) (h : HostView)
-    → s ≡ stage.Open → view_of s receipts recorded marks left out half next ≡ h → IsConsistent s receipts recorded marks left out half
-    → OpenHost receipts recorded marks left out half next h
-open_host s receipts recorded marks left out half next h up is fits =
+pub open_host : (s : Stage) (receipts : List (List Command)) (recorded : ℕ) (marks left : List ℕ) (out : Pending) (half : List ℕ) (next heard : ℕ) (h : HostView)
+    → s ≡ stage.Open → view_of s receipts recorded marks left out half next heard ≡ h → IsConsistent s receipts recorded marks left out half
+    → OpenHost receipts recorded marks left out half next heard h
+open_host s receipts recorded marks left out half next heard h up is fits =
     let here : IsConsistent stage.Open receipts recorded marks left out half = subst (λ v. IsConsistent v receipts recorded marks left out half) up fits in
-    let seen = ap (λ v. view_of v receipts recorded marks left out half next) (sym up) ∙ is in
+    let seen = ap (λ v. view_of v receipts recorded marks left out half next heard) (sym up) ∙ is in
     record {
       fits = here;
       is = seen;
@@ -495,6 +495,6 @@ few_of : (n : ℕ) → (n == 4) ≡ false → n ≤ 4 → n < 4
 few_of n h k = let other : n ≢ 4 = grind (arith, nat_tests, h) in omega (arith, other, k)
 
 -- There is room for one more receipt in flight.
-pub room_in_flight : (receipts : List (List Command)) (recorded : ℕ) (marks left : List ℕ) (out : Pending) (half : List ℕ) (next : ℕ) (h : HostView)
-    → OpenHost receipts recorded marks left out half next h → (length marks == 4) ≡ false → length marks ≤ 4 → length (pairs (drop recorded receipts) marks) < 4
-room_in_flight receipts recorded marks left out half next h o other most = subst (λ n. n < 4) (sym o.long) (few_of (length marks) other most)
+pub room_in_flight : (receipts : List (List Command)) (recorded : ℕ) (marks left : List ℕ) (out : Pending) (half : List ℕ) (next heard : ℕ) (h : HostView)
+    → OpenHost receipts recorded marks left out half next heard h → (length marks == 4) ≡ false → length marks ≤ 4 → length (pairs (drop recorded receipts) marks) < 4
+room_in_flight receipts recorded marks left out half next heard h o other most = subst (λ n. n < 4) (sym o.long) (few_of (length marks) other most)

@@ -8,7 +8,7 @@ use Rattle.escpos_host.specs.Machine.{HostView}
 
 -- The host with these records before its own.
 abbrev pub with_earlier : List (List Command) → HostView → HostView
-with_earlier earlier h = record { phase = h.phase; out = h.out; half = h.half; next = h.next; records = earlier ++ h.records; left = h.left }
+with_earlier earlier h = record { phase = h.phase; out = h.out; half = h.half; next = h.next; heard = h.heard; records = earlier ++ h.records; left = h.left }
 
 -- The event as a host hears it that has this many more records before its own.
 abbrev pub shifted : ℕ → HostEvent → HostEvent

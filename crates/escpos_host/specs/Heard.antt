@@ -4,25 +4,30 @@ use Rattle.std.specs.List.{AllByRecursion}
 use Rattle.escpos_command.specs.declared.answer.Answer.{Answer}
 use Rattle.escpos_command.specs.declared.answer.Answer.TheVariants as answer
 use Rattle.escpos_command.specs.Answers.{AnswerSpells, AreWholeAnswers, HalfAnswer, Hears, ViableAnswer}
-use Rattle.escpos_command.specs.Digits.{mark_count, mark_of}
+use Rattle.escpos_command.specs.Digits.{mark_count}
+use Rattle.escpos_host.specs.Counted.{id_of}
 use Rattle.escpos_host.specs.declared.host.HostEvent.{HostEvent}
 use Rattle.escpos_host.specs.declared.host.HostEvent.TheVariants as event
 use Rattle.escpos_host.specs.Machine.{HostView, InFlight, Phase, Down, Opening, Open, gone_down, receipts_of}
 
--- The id is that of a mark with a number from the first up to the next one, which isn't included.
-abbrev pub IsOpeningMark : ℕ → ℕ → List ℕ → Type 0
-IsOpeningMark first next id = (n : ℕ) × (first ≤ n) × (n < next) × (n < mark_count) × (mark_of n ≡ id)
+-- Of the marks with numbers from the first up to the next one, which isn't included, this one has the id.
+abbrev pub IsNumberOf : ℕ → ℕ → List ℕ → ℕ → Type 0
+IsNumberOf first next id n = (first ≤ n) × (n < next) × (n < first + mark_count) × (id_of n ≡ id)
 
--- The id is that of the closing mark of one of these receipts in flight.
-abbrev pub IsClosing : List InFlight → List ℕ → Type 0
-IsClosing [] id = ⊥
-IsClosing (p ∷ ps) id = (p.mark ≡ id) ⊎ IsClosing ps id
+-- The id is that of a mark with a number from the first up to the next one.
+abbrev pub IsMarkFrom : ℕ → ℕ → List ℕ → Type 0
+IsMarkFrom first next id = (n : ℕ) × IsNumberOf first next id n
+
+-- The id is that of the closing mark of one of these receipts, with a number from this one on.
+abbrev pub IsClosing : ℕ → List InFlight → List ℕ → Type 0
+IsClosing heard [] id = ⊥
+IsClosing heard (p ∷ ps) id = ((heard ≤ p.number) × (p.mark ≡ id)) ⊎ IsClosing heard ps id
 
 -- The answer to the mark with this id is one that a host in this phase ignores. Before an opening mark is answered it ignores none.
 abbrev pub IgnoresMark : Phase → ℕ → List ℕ → Type 0
 IgnoresMark Down next id = ⊥
 IgnoresMark (Opening first) next id = ⊥
-IgnoresMark (Open flight) next id = IsClosing flight id → ⊥
+IgnoresMark (Open flight) next id = IsClosing 0 flight id → ⊥
 
 abbrev pub Ignores : Phase → ℕ → Answer → Type 0
 Ignores phase next (answer.Status b) = ⊥
@@ -31,26 +36,47 @@ Ignores phase next (answer.Mark id) = IgnoresMark phase next id
 
 -- The host with another half answer.
 abbrev pub with_half : HostView → List ℕ → HostView
-with_half h half = record { phase = h.phase; out = h.out; half = half; next = h.next; records = h.records; left = h.left }
+with_half h half = record { phase = h.phase; out = h.out; half = half; next = h.next; heard = h.heard; records = h.records; left = h.left }
 
--- The link is open.
-abbrev pub opened : HostView → HostView
-opened h = record { phase = Open []; out = h.out; half = h.half; next = h.next; records = h.records; left = h.left }
+-- The link is open: the opening mark with this number was answered.
+abbrev pub opened : HostView → ℕ → HostView
+opened h n = record { phase = Open []; out = h.out; half = h.half; next = h.next; heard = n + 1; records = h.records; left = h.left }
 
--- Of these receipts this is the first one whose closing mark has the id; these come before it, and the others after it.
-pub record IsFirstWith (id : List ℕ) (all before : List InFlight) (p : InFlight) (others : List InFlight) : Type 0 where
+-- The mark of an older link with this number was answered.
+abbrev pub heard_late : HostView → ℕ → HostView
+heard_late h n = record { phase = h.phase; out = h.out; half = h.half; next = h.next; heard = n + 1; records = h.records; left = h.left }
+
+-- Of these receipts this is the first one whose closing mark has the id, and a number from this one on; these come before it, and
+-- the others after it.
+pub record IsFirstWith (heard : ℕ) (id : List ℕ) (all before : List InFlight) (p : InFlight) (others : List InFlight) : Type 0 where
   pub all_are : all ≡ before ++ p ∷ others
+  pub is_out : heard ≤ p.number
   pub mark : p.mark ≡ id
-  pub first : IsClosing before id → ⊥
+  pub first : IsClosing heard before id → ⊥
 
--- These receipts are recorded, and the others stay in flight; or they were left, and the others still are.
-abbrev pub recorded : HostView → List InFlight → List InFlight → HostView
-recorded h printed others =
-    record { phase = Open others; out = h.out; half = h.half; next = h.next; records = h.records ++ receipts_of printed; left = h.left }
+-- The receipts up to the one whose closing mark was answered are recorded, and the others stay in flight; or they were left, and the
+-- others still are.
+abbrev pub recorded : HostView → List InFlight → InFlight → List InFlight → HostView
+recorded h before last others = record {
+  phase = Open others;
+  out = h.out;
+  half = h.half;
+  next = h.next;
+  heard = last.number + 1;
+  records = h.records ++ receipts_of (before ++ last ∷ []);
+  left = h.left;
+}
 
-abbrev pub recorded_late : HostView → List InFlight → List InFlight → HostView
-recorded_late h printed others =
-    record { phase = h.phase; out = h.out; half = h.half; next = h.next; records = h.records ++ receipts_of printed; left = others }
+abbrev pub recorded_late : HostView → List InFlight → InFlight → List InFlight → HostView
+recorded_late h before last others = record {
+  phase = h.phase;
+  out = h.out;
+  half = h.half;
+  next = h.next;
+  heard = last.number + 1;
+  records = h.records ++ receipts_of (before ++ last ∷ []);
+  left = others;
+}
 
 -- The answer to the mark with this id records receipts in flight, or before an opening mark is answered such as are left: the
 -- last one has this number.
@@ -60,18 +86,25 @@ pub record RecordsUpTo (h : HostView) (id : List ℕ) (number : ℕ) (after : Ho
   pub others : List InFlight
   pub number_is : number ≡ length h.records + length before
   pub way :
-      ((flight : List InFlight) × (h.phase ≡ Open flight) × IsFirstWith id flight before last others × (after ≡ recorded h (before ++ last ∷ []) others))
-      ⊎ ((first : ℕ) × (h.phase ≡ Opening first) × (IsOpeningMark first h.next id → ⊥) × IsFirstWith id h.left before last others
-      × (after ≡ recorded_late h (before ++ last ∷ []) others))
+      ((flight : List InFlight) × (h.phase ≡ Open flight) × IsFirstWith 0 id flight before last others × (after ≡ recorded h before last others))
+      ⊎ ((first : ℕ) × (h.phase ≡ Opening first) × (IsMarkFrom first h.next id → ⊥) × IsFirstWith h.heard id h.left before last others
+      × (after ≡ recorded_late h before last others))
+
+-- The answer to the mark with this id, which is of an older link, is told. If it is one that could still be answered, it is answered
+-- now; and nothing else changes.
+abbrev pub IsToldLate : HostView → ℕ → List ℕ → HostView → Type 0
+IsToldLate h first id after =
+    ((n : ℕ) × IsNumberOf h.heard first id n × (after ≡ heard_late h n)) ⊎ ((IsMarkFrom h.heard first id → ⊥) × (after ≡ h))
 
 -- What a whole answer does to a host that has a link, and the event that it brings.
 abbrev pub Turns : HostView → Answer → HostEvent → HostView → Type 0
 Turns h a event.None after = Ignores h.phase h.next a × (after ≡ h)
 Turns h a event.Opened after =
-    (first : ℕ) × (id : List ℕ) × (h.phase ≡ Opening first) × (a ≡ answer.Mark id) × IsOpeningMark first h.next id × (after ≡ opened h)
+    (first : ℕ) × (n : ℕ) × (id : List ℕ) × (h.phase ≡ Opening first) × (a ≡ answer.Mark id) × IsNumberOf first h.next id n × (after ≡ opened h n)
 Turns h a (event.Recorded number) after = (id : List ℕ) × (a ≡ answer.Mark id) × RecordsUpTo h id number after
 Turns h a (event.Late id) after =
-    (first : ℕ) × (h.phase ≡ Opening first) × (a ≡ answer.Mark id) × (IsOpeningMark first h.next id → ⊥) × (IsClosing h.left id → ⊥) × (after ≡ h)
+    (first : ℕ) × (h.phase ≡ Opening first) × (a ≡ answer.Mark id) × (IsMarkFrom first h.next id → ⊥) × (IsClosing h.heard h.left id → ⊥)
+    × IsToldLate h first id after
 Turns h a (event.Status byte) after = (a ≡ answer.Status byte) × (after ≡ h)
 Turns h a (event.Condition block) after = (a ≡ answer.Condition block) × (after ≡ h)
 Turns h a (event.BadAnswer place) after = ⊥

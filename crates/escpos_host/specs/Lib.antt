@@ -1,6 +1,7 @@
 pub mod Out
 pub mod Refusals
 pub mod AnswerReader
+pub mod Counted
 pub mod Machine
 pub mod Kept
 pub mod Heard

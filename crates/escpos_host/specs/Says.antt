@@ -1,9 +1,9 @@
 -- What a host has put on one link.
-use Rattle.std.specs.Prelude.{ℕ, ◌≡◌, ◌⊎◌, ◌<◌, ◌≤◌, ◌+◌, IsTrue, zero, suc, List, [], ◌∷◌, ◌++◌}
+use Rattle.std.specs.Prelude.{ℕ, ◌≡◌, ◌⊎◌, ◌+◌, IsTrue, zero, suc, List, [], ◌∷◌, ◌++◌}
 use Rattle.std.specs.List.{flat_map, AllByRecursion}
 use Rattle.escpos_command.specs.declared.command.Command.{Command}
 use Rattle.escpos_command.specs.declared.command.Command.TheVariants as kind
-use Rattle.escpos_command.specs.Digits.{mark_count, mark_of}
+use Rattle.escpos_host.specs.Counted.{id_of}
 use Rattle.escpos_command.specs.Parameters.{is_status_kind}
 use Rattle.escpos_command.specs.CommandTable.{spell}
 use Rattle.escpos_receipt.specs.Whole.{Whole}
@@ -12,7 +12,7 @@ use Rattle.escpos_host.specs.Machine.{HostView, InFlight, Phase, Down, Opening, 
 -- This many marks, from this number on.
 abbrev pub marks_from : ℕ → ℕ → List Command
 marks_from zero first = []
-marks_from (suc count) first = kind.Mark (mark_of first) ∷ marks_from count (first + 1)
+marks_from (suc count) first = kind.Mark (id_of first) ∷ marks_from count (first + 1)
 
 -- A receipt with Init before it and its closing mark after it.
 abbrev pub framed : InFlight → List Command
@@ -29,9 +29,9 @@ said_by (Asked n) = kind.Status n ∷ []
 said_by AskedReports = ask_reports ∷ []
 said_by (Sent p) = framed p
 
--- What was sent is a receipt, and its closing mark has a number.
+-- What was sent is a receipt, and its closing mark has the id of its number.
 abbrev pub IsSent : InFlight → Type 0
-IsSent p = Whole p.receipt × ((n : ℕ) × (n < mark_count) × (p.mark ≡ mark_of n))
+IsSent p = Whole p.receipt × (p.mark ≡ id_of p.number)
 
 abbrev pub IsPart : Part → Type 0
 IsPart (Asked n) = IsTrue (is_status_kind n)
@@ -47,9 +47,9 @@ IsBeginning count first said = (said ≡ marks_from count first) ⊎ (said ≡ a
 abbrev pub SaysIn : Phase → ℕ → List Command → Type 0
 SaysIn Down next said = ⊥
 SaysIn (Opening first) next said =
-    (count : ℕ) × (next ≡ first + suc count) × (next ≤ mark_count) × IsBeginning (suc count) first said
+    (count : ℕ) × (next ≡ first + suc count) × IsBeginning (suc count) first said
 SaysIn (Open flight) next said =
-    (first : ℕ) × (count : ℕ) × (opening : List Command) × (parts : List Part) × (first + suc count ≤ mark_count) × IsBeginning (suc count) first opening
+    (first : ℕ) × (count : ℕ) × (opening : List Command) × (parts : List Part) × IsBeginning (suc count) first opening
     × AllByRecursion IsPart parts × AllByRecursion IsSent flight × (said ≡ opening ++ flat_map said_by parts ++ flat_map framed flight)
 
 abbrev pub Says : HostView → List Command → Type 0

@@ -12,15 +12,15 @@ use Rattle.escpos_command.specs.declared.answer.Answer.TheVariants as answer
 use Rattle.escpos_command.specs.declared.command.Command.{Command}
 use Rattle.escpos_command.specs.Answers.{Hears, ViableAnswer}
 use Rattle.escpos_command.specs.CommandTable.{spell}
-use Rattle.escpos_command.specs.Digits.{mark_count, mark_of}
+use Rattle.escpos_host.specs.Counted.{id_of}
 use Rattle.escpos_host.specs.declared.host.HostError.{HostError}
 use Rattle.escpos_host.specs.declared.host.HostError.TheVariants as error
 use Rattle.escpos_host.specs.declared.send.SendFault.{SendFault}
 use Rattle.escpos_host.specs.declared.send.SendFault.TheVariants as fault
 use Rattle.escpos_host.specs.declared.send.Sent.{Sent}
 use Rattle.escpos_host.specs.declared.send.Sent.TheVariants as became
-use Rattle.escpos_host.specs.Heard.{IsOpeningMark}
-use Rattle.escpos_host.specs.Machine.{HostView, Down, Open}
+use Rattle.escpos_host.specs.Heard.{IsMarkFrom}
+use Rattle.escpos_host.specs.Machine.{HostView, Down, HasMark, Open, closed_by, mark_limit, number_limit}
 use Rattle.escpos_host.specs.Says.{marks_from, framed}
 
 -- A call: the host as it was, the receipt, the number of opening marks, and how many bytes of answers may be read.
@@ -36,21 +36,21 @@ most_in_piece = 64
 
 -- The id of the receipt's closing mark, the mark after the opening marks.
 abbrev pub closing : Call → List ℕ
-closing c = mark_of (c.before.next + c.openings)
+closing c = id_of (c.before.next + c.openings)
 
 -- The bytes of the opening marks, and those of the receipt with Init before it and its closing mark after it.
 abbrev pub opening_bytes : Call → List ℕ
 opening_bytes c = spell (marks_from c.openings c.before.next)
 
 abbrev pub receipt_bytes : Call → List ℕ
-receipt_bytes c = spell (framed (record { receipt = c.receipt; mark = closing c }))
+receipt_bytes c = spell (framed (closed_by c.receipt (c.before.next + c.openings)))
 
 -- ## How far a call went, after these bytes of answers, the last of which may be a half answer
 
 abbrev pub IsToOpening : Call → Answer → Type 0
 IsToOpening c (answer.Status b) = ⊥
 IsToOpening c (answer.Condition block) = ⊥
-IsToOpening c (answer.Mark id) = IsOpeningMark c.before.next (c.before.next + c.openings) id
+IsToOpening c (answer.Mark id) = IsMarkFrom c.before.next (c.before.next + c.openings) id
 
 abbrev pub IsToClosing : Call → Answer → Type 0
 IsToClosing c (answer.Status b) = ⊥
@@ -107,17 +107,17 @@ pub record Closed (c : Call) (bytes : List ℕ) : Type 0 where
 
 -- ## The results
 
--- This many marks from the next one on have numbers.
+-- The opening marks may be put out, and this many marks from the next one on have numbers.
 abbrev pub HasMarks : Call → ℕ → Type 0
-HasMarks c used = c.before.next + used ≤ mark_count
+HasMarks c used = (c.before.next + c.openings ≤ mark_limit c.before) × (c.before.next + used ≤ number_limit)
 
--- The link is given up, and this many marks were used. What an older link left is dropped, unless not all of the opening
--- marks could be put out.
-abbrev pub given_up : Call → ℕ → HostView
-given_up c used = record { phase = Down; out = []; half = []; next = c.before.next + used; records = c.before.records; left = [] }
+-- The link is given up, this many marks were used, and the marks below a number were answered. What an older link left is dropped,
+-- unless not all of the opening marks could be put out.
+abbrev pub given_up : Call → ℕ → ℕ → HostView
+given_up c used heard = record { phase = Down; out = []; half = []; next = c.before.next + used; heard = heard; records = c.before.records; left = [] }
 
 abbrev pub not_dialled : Call → ℕ → HostView
-not_dialled c used = record { phase = Down; out = []; half = []; next = c.before.next + used; records = c.before.records; left = c.before.left }
+not_dialled c used = record { phase = Down; out = []; half = []; next = c.before.next + used; heard = c.before.heard; records = c.before.records; left = c.before.left }
 
 -- The receipt is the last record, and the link stays open.
 abbrev pub recorded_by : Call → HostView
@@ -126,6 +126,7 @@ recorded_by c = record {
   out = [];
   half = [];
   next = c.before.next + c.openings + 1;
+  heard = c.before.next + c.openings + 1;
   records = c.before.records ++ c.receipt ∷ [];
   left = [];
 }
@@ -165,29 +166,30 @@ Breaks c bytes out used =
     ((bytes ≡ []) × IsCut (opening_bytes c) out × (used ≡ c.openings))
     ⊎ ((half : List ℕ) × (some : List ℕ) × Opened c bytes half × (out ≡ opening_bytes c ++ some) × IsCut (receipt_bytes c) some × (used ≡ c.openings + 1))
 
--- Why the host refused a call: to open the link, to put one more opening mark out, or to take the receipt.
+-- Why the host refused a call: to open the link, to put one more opening mark out, or to take the receipt. By then the answer to an
+-- opening mark may have freed numbers.
 abbrev pub RefusesSend : Call → HostError → List ℕ → List ℕ → HostView → Type 0
 RefusesSend c error.AlreadyUp bytes out after = (c.before.phase ≢ Down) × Nothing bytes out × (after ≡ c.before)
 RefusesSend c error.MarksUsedUp bytes out after =
     (c.before.phase ≡ Down)
-    × (((mark_count ≤ c.before.next) × Nothing bytes out × (after ≡ c.before))
-    ⊎ ((used : ℕ) × (0 < used) × (used < c.openings) × (c.before.next + used ≡ mark_count) × Nothing bytes out × (after ≡ not_dialled c used))
-    ⊎ ((half : List ℕ) × (c.before.next + c.openings ≡ mark_count) × IsDue c bytes half out c.openings × (after ≡ given_up c c.openings)))
+    × (((mark_limit c.before ≤ c.before.next) × Nothing bytes out × (after ≡ c.before))
+    ⊎ ((used : ℕ) × (0 < used) × (used < c.openings) × (c.before.next + used ≡ mark_limit c.before) × Nothing bytes out × (after ≡ not_dialled c used))
+    ⊎ ((half : List ℕ) × (mark_limit after ≤ c.before.next + c.openings) × IsDue c bytes half out c.openings × (after ≡ given_up c c.openings after.heard)))
 RefusesSend c error.Memory bytes out after =
-    (c.before.phase ≡ Down) × (c.before.next < mark_count)
+    (c.before.phase ≡ Down) × HasMark c.before
     × ((Nothing bytes out × (after ≡ c.before))
-    ⊎ ((used : ℕ) × (0 < used) × (used < c.openings) × (c.before.next + used < mark_count) × Nothing bytes out × (after ≡ not_dialled c used))
-    ⊎ ((half : List ℕ) × (c.before.next + c.openings < mark_count) × IsDue c bytes half out c.openings × (after ≡ given_up c c.openings)))
+    ⊎ ((used : ℕ) × (0 < used) × (used < c.openings) × (c.before.next + used < mark_limit c.before) × Nothing bytes out × (after ≡ not_dialled c used))
+    ⊎ ((half : List ℕ) × (c.before.next + c.openings < mark_limit after) × IsDue c bytes half out c.openings × (after ≡ given_up c c.openings after.heard)))
 RefusesSend c _ bytes out after = ⊥
 
 -- A read found no further answer, although more bytes may be read.
 abbrev pub FindsNone : Call → List ℕ → List ℕ → HostView → Type 0
 FindsNone c bytes out after =
-    (half : List ℕ) × (used : ℕ) × Waits c bytes half out used × (length bytes < c.most) × HasMarks c used × (after ≡ given_up c used)
+    (half : List ℕ) × (used : ℕ) × Waits c bytes half out used × (length bytes < c.most) × HasMarks c used × (after ≡ given_up c used after.heard)
 
 -- The writer failed before all was said.
 abbrev pub CantPut : Call → List ℕ → List ℕ → HostView → Type 0
-CantPut c bytes out after = (used : ℕ) × Breaks c bytes out used × HasMarks c used × (after ≡ given_up c used)
+CantPut c bytes out after = (used : ℕ) × Breaks c bytes out used × HasMarks c used × (after ≡ given_up c used after.heard)
 
 -- Which bytes were read and written if the receipt isn't recorded, and how the host is left. The end of the answers and the
 -- reader's failure are found only by a read, and there is no read once as many bytes were read as may be. A time-out is a
@@ -196,10 +198,10 @@ abbrev pub Fails : Call → SendFault → List ℕ → List ℕ → HostView →
 Fails c fault.Ended bytes out after = FindsNone c bytes out after
 Fails c fault.ReadFault bytes out after = FindsNone c bytes out after
 Fails c fault.TooLong bytes out after =
-    (half : List ℕ) × (used : ℕ) × Waits c bytes half out used × (length bytes ≡ c.most) × HasMarks c used × (after ≡ given_up c used)
+    (half : List ℕ) × (used : ℕ) × Waits c bytes half out used × (length bytes ≡ c.most) × HasMarks c used × (after ≡ given_up c used after.heard)
 Fails c fault.WriteFault bytes out after = CantPut c bytes out after
 Fails c fault.TimedOut bytes out after = FindsNone c bytes out after ⊎ CantPut c bytes out after
-Fails c fault.BadAnswer bytes out after = (used : ℕ) × IsBad c bytes out used × HasMarks c used × (after ≡ given_up c used)
+Fails c fault.BadAnswer bytes out after = (used : ℕ) × IsBad c bytes out used × HasMarks c used × (after ≡ given_up c used after.heard)
 Fails c (fault.Refused why) bytes out after = RefusesSend c why bytes out after
 
 -- What a call does, with these bytes read and these written.

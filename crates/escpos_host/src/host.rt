@@ -3,17 +3,19 @@
 //! Everything that changes a host is in this module. The protocol is `specs/Machine.antt`; `outbox` keeps what is to be put
 //! out, and `answer_reader` reads answers.
 
-ghost use Rattle.std.specs.Prelude.{◌≡◌, ◌≢◌, ◌+◌, ◌<◌, ◌≤◌, ◌↔◌, min, not, List, [], ◌∷◌, ◌++◌, length, take, drop, slice_get, Ok, Err, OnOk, IfErr, IsTrue, IsOk, MatchOption, ℕ};
-ghost use Rattle.escpos_command.specs.Digits.{mark_count, mark_of};
+ghost use Rattle.std.specs.Prelude.{◌≡◌, ◌≢◌, ◌+◌, ◌-◌, ◌<◌, ◌≤◌, ◌↔◌, min, not, List, [], ◌∷◌, ◌++◌, length, take, drop, slice_get, slice_index, Ok, Err, OnOk, IfErr, IsTrue, IsOk, MatchOption, ℕ};
+ghost use Rattle.std.specs.Option.{SomeIff};
+ghost use Rattle.escpos_host.specs.Counted.{id_of};
 ghost use Rattle.escpos_command.specs.declared.answer.Answer.TheVariants as answer;
 ghost use Rattle.escpos_host.specs.Kept.{HasIdAmong, IsPlaceOf};
-ghost use Rattle.escpos_host.specs.Heard.{HearsByte, IsHeard, IsOpeningMark, Turns};
-ghost use Rattle.escpos_host.specs.Machine.{HostView, InFlight, Down, Opening, Open, HasMark, IsOpening, IsSound, RefusesAsk, RefusesLinkUp, RefusesNudge, RefusesSubmit, asked, error_number, gone_down, linked, linked_by, linked_reporting, most_in_flight, nudged, receipts_of, reports_asked, state_of, submitted, taken_out, handed_out, with_left};
+ghost use Rattle.escpos_host.specs.Heard.{HearsByte, IsHeard, IsMarkFrom, IsNumberOf, Turns};
+ghost use Rattle.escpos_host.specs.Machine.{HostView, InFlight, Down, Opening, Open, HasMark, IsOpening, IsSound, RefusesAsk, RefusesLinkUp, RefusesNudge, RefusesSubmit, asked, error_number, gone_down, limit_from, linked, linked_by, linked_reporting, mark_limit, most_in_flight, nudged, receipts_of, reports_asked, state_of, submitted, taken_out, handed_out, with_left};
 
 use crate::answer_reader::{AnswerReader, NoAnswer};
+use crate::counted::{MARK_COUNT, id_of_count, number_from};
 use crate::outbox::{Out, OutPart};
 use arrayvec::ArrayVec;
-use escpos_command::{Answer, AutomaticStatus, MarkId, StatusKind, laws};
+use escpos_command::{Answer, AutomaticStatus, MarkId, StatusKind};
 use escpos_receipt::Receipt;
 use std::alloc::Global;
 use std::marker::Model;
@@ -42,7 +44,8 @@ pub enum HostState {
 pub enum HostError {
     /// 1: the host isn't in a state for this call.
     NotReady,
-    /// 2: no number for a mark is left.
+    /// 2: no number for a mark is left: 1,679,616 marks are out since the last one whose answer was heard, or the next number is
+    /// 4,294,967,295.
     MarksUsedUp,
     /// 3: there is a link already.
     AlreadyUp,
@@ -132,7 +135,9 @@ pub struct Host {
     // the numbers of the closing marks of the receipts in flight, and of those that are left
     closing: ArrayVec<u32, MOST_IN_FLIGHT>,
     left: ArrayVec<u32, MOST_IN_FLIGHT>,
+    // the number of the next mark, and the number after the last mark whose answer was heard
     next: u32,
+    oldest: u32,
     out: Out,
     reader: AnswerReader,
 }
@@ -143,24 +148,25 @@ impl Model for Host {
 
     ghost Value = { HostView };
 
-    ghost view = { λ h. view_of h.stage h.receipts.items h.recorded h.closing.items h.left.items h.out h.reader h.next };
+    ghost view = { λ h. view_of h.stage h.receipts.items h.recorded h.closing.items h.left.items h.out h.reader h.next h.oldest };
 
     ghost invariant = { λ h. IsConsistent h.stage h.receipts.items h.recorded h.closing.items h.left.items h.out h.reader };
 }
 
 impl Host {
-    /// A host with no link and no record, whose first mark will have this number. From 1,679,616 on, no mark is left.
-    /// Allocates nothing.
+    /// A host with no link and no record, whose first mark will have this number. It takes it that no mark with a lower number can be
+    /// answered any more: where one can, and so many marks are put that its id comes round, use `resume`. Allocates nothing.
     pub fn new(alloc: Global, first_mark: u32) -> Self
-        ensures { result ≡ record { phase = Down; out = []; half = []; next = first_mark; records = []; left = [] } }
+        ensures { result ≡ record { phase = Down; out = []; half = []; next = first_mark; heard = first_mark; records = []; left = [] } }
     {
-        Host::resume(alloc, first_mark, Vec::new(alloc))
+        Host::resume(alloc, first_mark, first_mark, Vec::new(alloc))
     }
 
-    /// A host that goes on after a restart, with these records and with this number for its next mark, which must be one
-    /// that the host has never used. Allocates nothing.
-    pub fn resume(alloc: Global, first_mark: u32, records: Vec<Receipt>) -> Self
-        ensures { result ≡ record { phase = Down; out = []; half = []; next = first_mark; records = records.items; left = [] } }
+    /// A host that goes on after a restart, with these records, with this number for its next mark, which must be one that the host
+    /// has never used, and with its `oldest_mark` of before: whoever restarts a host must know from its own records a number that
+    /// isn't more than that. One that is more than `first_mark` counts as `first_mark`. Allocates nothing.
+    pub fn resume(alloc: Global, first_mark: u32, oldest_mark: u32, records: Vec<Receipt>) -> Self
+        ensures { result ≡ record { phase = Down; out = []; half = []; next = first_mark; heard = min oldest_mark first_mark; records = records.items; left = [] } }
     {
         Host {
             recorded: records.len(),
@@ -169,6 +175,7 @@ impl Host {
             closing: ArrayVec::new(),
             left: ArrayVec::new(),
             next: first_mark,
+            oldest: oldest_mark.min(first_mark),
             out: Out::new(alloc),
             reader: AnswerReader::new(),
         }
@@ -199,6 +206,23 @@ impl Host {
     {
         let Host { next, .. } = self;
         *next
+    }
+
+    /// The number after the last mark whose answer was heard: no mark with a lower number can be answered any more. Allocates nothing.
+    pub fn oldest_mark(&self) -> u32
+        ensures { result ≡ self.now.heard }
+    {
+        let Host { oldest, .. } = self;
+        *oldest
+    }
+
+    /// How many marks the host may put out until it hears the answer to another one. Allocates nothing.
+    pub fn marks_left(&self) -> u32
+        ensures { result ≡ mark_limit self.now - self.now.next }
+    {
+        self.oldest
+            .saturating_add(MARK_COUNT)
+            .saturating_sub(self.next)
     }
 
     /// Whether there are bytes to take out. Allocates nothing.
@@ -245,7 +269,7 @@ impl Host {
         let Stage::Down = self.stage else {
             return Err(HostError::AlreadyUp);
         };
-        let Some(mark) = MarkId::of_number(self.next) else {
+        let Some(mark) = mark_to_put(self.next, self.oldest) else {
             return Err(HostError::MarksUsedUp);
         };
         if self.out.push(OutPart::opening(mark, reporting)).is_err() {
@@ -264,7 +288,7 @@ impl Host {
         let Stage::Opening { .. } = self.stage else {
             return Err(HostError::NotReady);
         };
-        let Some(mark) = MarkId::of_number(self.next) else {
+        let Some(mark) = mark_to_put(self.next, self.oldest) else {
             return Err(HostError::MarksUsedUp);
         };
         if self.out.push(OutPart::Mark(mark)).is_err() {
@@ -288,7 +312,7 @@ impl Host {
         if self.closing.is_full() {
             return Err((HostError::InFlightFull, receipt));
         }
-        let Some(closing) = MarkId::of_number(self.next) else {
+        let Some(closing) = mark_to_put(self.next, self.oldest) else {
             return Err((HostError::MarksUsedUp, receipt));
         };
         let place = self.recorded + self.closing.len();
@@ -415,28 +439,36 @@ impl Host {
         ensures { Turns self.old (answer.Mark id) result self.new }
     {
         match self.stage {
-            Stage::Opening { first } if is_opening(id, first, self.next) => {
-                self.stage = Stage::Open;
-                HostEvent::Opened
-            }
-            Stage::Opening { .. } => self.hear_older(id),
+            Stage::Opening { first } => match number_of(id, first, self.next) {
+                Some(number) => {
+                    self.stage = Stage::Open;
+                    self.oldest = number + 1;
+                    HostEvent::Opened
+                }
+                None => self.hear_older(id, first),
+            },
             Stage::Open => self.hear_closing(id),
             Stage::Down => HostEvent::None,
         }
     }
 
     // Hears the answer to a mark of an older link, before an opening mark is answered.
-    fn hear_older(&mut self, id: MarkId) -> HostEvent
-        requires { (first : ℕ) × (self.old.phase ≡ Opening first) × (IsOpeningMark first self.old.next id → ⊥) }
+    fn hear_older(&mut self, id: MarkId, first: u32) -> HostEvent
+        requires { (self.old.phase ≡ Opening first) × (IsMarkFrom first self.old.next id → ⊥) }
         ensures { Turns self.old (answer.Mark id) result self.new }
     {
-        match place_of(self.left.as_slice(), id) {
+        match place_of(self.left.as_slice(), id, self.oldest) {
             Some(place) => {
-                remove_first(&mut self.left, place + 1);
+                self.oldest = remove_first(&mut self.left, place) + 1;
                 self.recorded += place + 1;
                 HostEvent::Recorded(self.recorded - 1)
             }
-            None => HostEvent::Late(id),
+            None => {
+                if let Some(number) = number_of(id, self.oldest, first) {
+                    self.oldest = number + 1;
+                }
+                HostEvent::Late(id)
+            }
         }
     }
 
@@ -445,9 +477,9 @@ impl Host {
         requires { (flight : List InFlight) × (self.old.phase ≡ Open flight) }
         ensures { Turns self.old (answer.Mark id) result self.new }
     {
-        match place_of(self.closing.as_slice(), id) {
+        match place_of(self.closing.as_slice(), id, 0) {
             Some(place) => {
-                remove_first(&mut self.closing, place + 1);
+                self.oldest = remove_first(&mut self.closing, place) + 1;
                 self.recorded += place + 1;
                 HostEvent::Recorded(self.recorded - 1)
             }
@@ -506,46 +538,55 @@ impl Host {
     }
 }
 
-// Whether this is an opening mark of a link whose marks have the numbers from `first` up to `next`.
-fn is_opening(id: MarkId, first: u32, next: u32) -> bool
-    ensures { IsTrue result ↔ IsOpeningMark first next id }
+// The id of the mark that has this number, where all marks below the oldest are answered; `None` if its id may be out, or no number is
+// left.
+fn mark_to_put(number: u32, oldest: u32) -> Option<MarkId>
+    ensures { SomeIff result (number < limit_from oldest) (id_of number) }
 {
-    // Proof only: each mark number has an id of its own.
-    laws::mark_numbers();
-    match id.number() {
-        Some(number) => first <= number && number < next,
-        None => false,
+    if number < oldest.saturating_add(MARK_COUNT) {
+        Some(id_of_count(number))
+    } else {
+        None
     }
 }
 
-// The place of the first of these numbers whose mark has this id.
-fn place_of(numbers: &[u32], id: MarkId) -> Option<usize>
-    ensures { MatchOption result (HasIdAmong numbers.now id → ⊥) (λ place. IsPlaceOf numbers.now id place) }
+// Which of the marks with the numbers from `first` up to `next` has this id.
+fn number_of(id: MarkId, first: u32, next: u32) -> Option<u32>
+    ensures { MatchOption result (IsMarkFrom first next id → ⊥) (λ n. IsNumberOf first next id n) }
+{
+    match number_from(id, first) {
+        Some(number) if number < next => Some(number),
+        _ => None,
+    }
+}
+
+// The place of the first of these numbers, from `least` on, whose mark has this id.
+fn place_of(numbers: &[u32], id: MarkId, least: u32) -> Option<usize>
+    ensures { MatchOption result (HasIdAmong least numbers.now id → ⊥) (λ place. IsPlaceOf least numbers.now id place) }
 {
     for (place, number) in numbers.iter().enumerate() {
-        if is_id_of(*number, id) {
+        if least <= *number && is_id_of(*number, id) {
             return Some(place);
         }
     }
     None
 }
 
-// Removes the first `count` of these numbers.
-fn remove_first(numbers: &mut ArrayVec<u32, MOST_IN_FLIGHT>, count: usize)
-    requires { count ≤ length numbers.old.items }
-    ensures { numbers.new.items ≡ drop count numbers.old.items }
+// Removes the numbers up to this place, and returns the one at it.
+fn remove_first(numbers: &mut ArrayVec<u32, MOST_IN_FLIGHT>, place: usize) -> u32
+    requires { place < length numbers.old.items }
+    ensures rest { numbers.new.items ≡ drop (place + 1) numbers.old.items }
+    ensures number { result ≡ slice_index numbers.old.items place }
 {
-    for _ in 0..count {
+    for _ in 0..place {
         let _ = numbers.remove(0);
     }
+    numbers.remove(0)
 }
 
 // Whether the mark with this number has this id.
 fn is_id_of(number: u32, id: MarkId) -> bool
-    ensures { IsTrue result ↔ ((number < mark_count) × (mark_of number ≡ id)) }
+    ensures { IsTrue result ↔ (id_of number ≡ id) }
 {
-    match MarkId::of_number(number) {
-        Some(other) => other == id,
-        None => false,
-    }
+    id_of_count(number) == id
 }

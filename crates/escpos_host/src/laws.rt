@@ -2,13 +2,15 @@
 //! proved with this crate, and another crate cites it by calling the function. The calls in the bodies cite laws of
 //! answers.
 
-ghost use Rattle.std.specs.Prelude.{◌≡◌, ◌≢◌, ◌⊎◌, ◌<◌, ◌≤◌, ◌↔◌, ℕ, List, [], ◌∷◌, ◌++◌, length, map, take, IsTrue};
+ghost use Rattle.std.specs.Prelude.{◌≡◌, ◌≢◌, ◌⊎◌, ◌+◌, ◌<◌, ◌≤◌, ◌↔◌, ℕ, List, [], ◌∷◌, ◌++◌, length, map, take, IsTrue};
 ghost use Rattle.escpos_command.specs.declared.command.Command.{Command};
 ghost use Rattle.escpos_command.specs.declared.command.Command.TheVariants as kind;
 ghost use Rattle.escpos_command.specs.declared.answer.Answer.{Answer};
 ghost use Rattle.escpos_command.specs.Answers.{AreWholeAnswers, answer_bytes, is_answer};
 ghost use Rattle.escpos_command.specs.CommandTable.{AreCommands, spell};
-ghost use Rattle.escpos_command.specs.Parameters.{is_status_kind};
+ghost use Rattle.escpos_command.specs.Digits.{mark_count, mark_of};
+ghost use Rattle.escpos_command.specs.Parameters.{is_mark_id, is_status_kind};
+ghost use Rattle.escpos_host.specs.Counted.{id_of};
 ghost use Rattle.escpos_host.specs.declared.host.HostEvent.{HostEvent};
 ghost use Rattle.escpos_host.specs.Earlier.{shifted, with_earlier};
 ghost use Rattle.escpos_host.specs.Heard.{EndsLink, GoesOn, HearsAll, IsHeard, IsOff, Turns, last_of};
@@ -16,6 +18,15 @@ ghost use Rattle.escpos_host.specs.Machine.{HasMark, HostView, InFlight, IsOpeni
 ghost use Rattle.escpos_host.specs.Says.{HasNoRequest, Talks};
 ghost use Rattle.escpos_real_time.specs.RealTime.{HoldsRealTime};
 ghost use Rattle.escpos_receipt.specs.Whole.{Whole};
+
+/// Marks that are counted on: an id comes again after 1,679,616 marks, and not before.
+pub fn counted_marks()
+    ensures first_round { (n : ℕ) → n < mark_count → id_of n ≡ mark_of n }
+    ensures ids { (n : ℕ) → IsTrue (is_mark_id (id_of n)) }
+    ensures apart { (m n : ℕ) → m ≤ n → n < m + mark_count → id_of m ≡ id_of n → m ≡ n }
+{
+    escpos_command::laws::mark_numbers();
+}
 
 /// What a host says: suppose that it has said these commands on its link, of whose bytes some were taken out and the others
 /// are still to be. This holds again after each call that leaves the link up, with what the call puts out added, and also
@@ -40,7 +51,7 @@ pub fn says()
     ensures no_real_time { (h : HostView) (out : List ℕ) (said before middle following : List Command) → Talks h out said → AreCommands said
         → said ≡ before ++ (middle ++ following) → HasNoRequest middle → HoldsRealTime (spell middle) → ⊥ }
 {
-    escpos_command::laws::mark_numbers();
+    counted_marks();
 }
 
 /// Whole answers: suppose that a host's half answer, a piece that it hears and the bytes after that are whole answers

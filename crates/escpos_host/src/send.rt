@@ -5,10 +5,9 @@
 
 ghost use Rattle.std.specs.Prelude.{◌≡◌, ◌≢◌, ◌↔◌, ◌⊎◌, ◌+◌, ◌<◌, ◌≤◌, max, ℕ, List, [], length, IsTrue, IsErrOf, IfOk, IfErr, OnOk, OnErr};
 ghost use Rattle.std.specs.Io.KnownBytes.{Appends, Consumes};
-ghost use Rattle.escpos_command.specs.Digits.{mark_count};
 ghost use Rattle.escpos_host.specs.declared.send.SendFault.{SendFault};
 ghost use Rattle.escpos_host.specs.Awaits.{Brought, Closes, HearsOut, IsBreak, IsOverlookedEvent, IsSilence, Lost, Opens, RefusesOpening, Silent, Stops, dialled, dialled_by, dialled_reporting, sending, starting, with_out};
-ghost use Rattle.escpos_host.specs.Machine.{Down};
+ghost use Rattle.escpos_host.specs.Machine.{Down, mark_limit};
 ghost use Rattle.escpos_host.specs.Sends.{Call, HasMarks, IsCut, Opened, Sends, Why, most_in_piece, opening_bytes};
 
 use crate::host::{Heard, Host, HostError, HostEvent};
@@ -178,7 +177,7 @@ pub fn send_link<R: ByteIn, W: ByteOut>(
 /// What an older link left stays.
 pub fn open_link(host: &mut Host, openings: u32) -> Result<(), HostError>
     ensures opened { OnOk result ((host.old.phase ≡ Down) × (host.new ≡ dialled host.old (max openings 1))) }
-    ensures marks { OnOk result (host.old.next + max openings 1 ≤ mark_count) }
+    ensures marks { OnOk result (host.old.next + max openings 1 ≤ mark_limit host.old) }
     ensures refused { IfErr result (λ why. RefusesOpening why host.old (max openings 1) host.new) }
 {
     dial(host, openings, false)
@@ -187,7 +186,7 @@ pub fn open_link(host: &mut Host, openings: u32) -> Result<(), HostError>
 /// Brings a host's link up as `open_link` does, with a request for automatic status before the opening marks. (Reference: GS a.)
 pub fn open_link_reporting(host: &mut Host, openings: u32) -> Result<(), HostError>
     ensures opened { OnOk result ((host.old.phase ≡ Down) × (host.new ≡ dialled_reporting host.old (max openings 1))) }
-    ensures marks { OnOk result (host.old.next + max openings 1 ≤ mark_count) }
+    ensures marks { OnOk result (host.old.next + max openings 1 ≤ mark_limit host.old) }
     ensures refused { IfErr result (λ why. RefusesOpening why host.old (max openings 1) host.new) }
 {
     dial(host, openings, true)
@@ -196,7 +195,7 @@ pub fn open_link_reporting(host: &mut Host, openings: u32) -> Result<(), HostErr
 // Brings a host's link up, with a request for automatic status or without, and puts out this many opening marks; 0 counts as 1.
 fn dial(host: &mut Host, openings: u32, reporting: bool) -> Result<(), HostError>
     ensures opened { OnOk result ((host.old.phase ≡ Down) × (host.new ≡ dialled_by reporting host.old (max openings 1))) }
-    ensures marks { OnOk result (host.old.next + max openings 1 ≤ mark_count) }
+    ensures marks { OnOk result (host.old.next + max openings 1 ≤ mark_limit host.old) }
     ensures refused { IfErr result (λ why. RefusesOpening why host.old (max openings 1) host.new) }
 {
     host.open(reporting)?;
@@ -256,12 +255,12 @@ fn await_recorded<R: ByteIn, W: ByteOut>(
     most: usize,
 ) -> Result<usize, SendFault>
     requires up { host.old.phase ≢ Down }
-    ensures closes { IfOk result (λ number. (c : Call) (early half : List ℕ) → host.old ≡ sending c half → Opened c early half
+    ensures closes { IfOk result (λ number. (c : Call) (early half : List ℕ) (heard : ℕ) → host.old ≡ sending c half heard → Opened c early half
         → Closes c early (R.to_come reader.old) (R.to_come reader.new) (W.written writer.old) (W.written writer.new) most number host.new) }
     ensures pulls { R.pull_count reader.new ≤ R.pull_count reader.old + most + 1 }
-    ensures stops { IfErr result (λ why. (c : Call) (early half : List ℕ) → host.old ≡ sending c half → Opened c early half → HasMarks c (c.openings + 1) → c.most ≡ length early + most
+    ensures stops { IfErr result (λ why. (c : Call) (early half : List ℕ) (heard : ℕ) → host.old ≡ sending c half heard → Opened c early half → HasMarks c (c.openings + 1) → c.most ≡ length early + most
         → Stops c early (opening_bytes c) (R.to_come reader.old) (R.to_come reader.new) (W.written writer.old) (W.written writer.new) most why (c.openings + 1)) }
-    ensures lost { OnErr result ((c : Call) (half : List ℕ) → host.old ≡ sending c half → Lost host.old host.new) }
+    ensures lost { OnErr result ((c : Call) (half : List ℕ) (heard : ℕ) → host.old ≡ sending c half heard → Lost host.old host.new) }
     ensures ended { IsErrOf result SendFault.Ended → IsTrue (R.ended reader.new) }
     ensures read_fault { IsErrOf result SendFault.ReadFault → IsTrue (R.failed reader.new) × (¬ IsTrue (R.timed_out reader.new)) }
     ensures write_fault { IsErrOf result SendFault.WriteFault → IsTrue (W.failed writer.new) × (¬ IsTrue (W.timed_out writer.new)) }

@@ -2,6 +2,7 @@
 
 mod late;
 mod receipts;
+mod rounds;
 mod rows;
 mod sending;
 mod sizes;

@@ -5,7 +5,7 @@ use Rattle.escpos_host.specs.declared.host.HostEvent.{HostEvent}
 use Rattle.escpos_host.specs.declared.host.HostEvent.TheVariants as event
 use Rattle.escpos_host.specs.Heard.{Grows, HearsByte, IsHeard, Misfits, Turns, with_half}
 use Rattle.escpos_host.specs.Machine.{HostView, Phase, Down, Opening, Open}
-use Rattle.escpos_host.proofs.Recording.{keeps}
+use Rattle.escpos_host.proofs.Recording.{keeps, told}
 
 -- there is no more to take out than there was
 abbrev pub IsQuiet : HostView → HostView → Type 0
@@ -22,9 +22,9 @@ dropped h after e = let l : length after.out ≡ 0 = ap length e in omega (arith
 
 turned : (h : HostView) (a : Answer) (e : HostEvent) (after : HostView) → Turns h a e after → IsQuiet h after
 turned h a event.None after t = same h after (ap out_of t.1)
-turned h a event.Opened after (first, id, opening, mark, among, is) = same h after (ap out_of is)
+turned h a event.Opened after (first, n, id, opening, mark, among, is) = same h after (ap out_of is)
 turned h a (event.Recorded number) after (id, mark, records) = same h after (keeps h after id number records).out
-turned h a (event.Late id) after (first, opening, mark, other, unleft, is) = same h after (ap out_of is)
+turned h a (event.Late id) after (first, opening, mark, other, unleft, late) = same h after (told h after first id opening late).keeps.out
 turned h a (event.Status byte) after t = same h after (ap out_of t.1)
 turned h a (event.Condition block) after t = same h after (ap out_of t.1)
 turned h a (event.BadAnswer place) after turns = absurd turns

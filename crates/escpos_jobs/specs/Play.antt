@@ -27,7 +27,7 @@ use Rattle.escpos_jobs.specs.ScriptOutput.{records_line, refused_line, event_lin
 -- Nothing has happened to the line yet: the printer is online and prints lines of 512 dots, and the host's first mark has the
 -- number 0.
 pub record IsNew (l : LineView) : Type 0 where
-  pub host : l.host ≡ record { phase = Down; out = []; half = []; next = 0; records = []; left = [] }
+  pub host : l.host ≡ record { phase = Down; out = []; half = []; next = 0; heard = 0; records = []; left = [] }
   pub sheet : SheetIs USUAL_LINE_DOTS l.printer.sheet [] []
   pub half : l.printer.half ≡ []
   pub waiting : l.printer.waiting ≡ []

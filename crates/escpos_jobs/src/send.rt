@@ -107,7 +107,7 @@ pub fn send_over<R: ByteIn, A: ByteOut, W: ByteOut>(
     writer: &mut A,
     output: &mut W,
 ) -> Status
-    ensures sends { SendsAndTells (record { before = record { phase = Down; out = []; half = []; next = marks.first; records = []; left = [] }; receipt = receipt; openings = max marks.openings 1; most = ANSWERS_LIMIT })
+    ensures sends { SendsAndTells (record { before = record { phase = Down; out = []; half = []; next = marks.first; heard = marks.first; records = []; left = [] }; receipt = receipt; openings = max marks.openings 1; most = ANSWERS_LIMIT })
         (passed (R.to_come reader.old) (R.to_come reader.new) (A.written writer.old) (A.written writer.new))
         (devices (R.ended reader.new) (R.failed reader.new) (R.timed_out reader.new) (A.failed writer.new) (A.timed_out writer.new))
         (job_end (W.written output.old) (W.written output.new) (W.failed output.new) result) }

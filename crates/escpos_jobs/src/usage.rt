@@ -439,9 +439,9 @@ line `memory` says that the program ran out of memory.
       is none, and a wait of S seconds for a byte, or to put one, gives
       TimedOut. Otherwise a wait lasts as long as the link.
 
-      Each mark has a number of its own, 0 to 1679615. F is the first one that
-      this till hasn't used with this printer, and the last line is `next M`
-      with the one that comes after; keep M for the next run. A receipt takes
+      Each mark has a number of its own, 0 to 4294967294. F is the first one
+      that this till hasn't used with this printer, and the last line is `next
+      M` with the one that comes after; keep M for the next run. A receipt takes
       one number and N more to open the link, 1 to 99; three without --openings.
 
           $ echo '[{\"line\":\"Hi\"}]' |
@@ -528,12 +528,13 @@ line `memory` says that the program ran out of memory.
   escpos_cli deliver LEDGER ADDRESS [--openings N] [--copy TEXT] [--wait S]
                                     [--patience P]
       Sends each receipt that waits to the printer at ADDRESS, in the order of
-      their numbers, each over a link of its own, as `send` does; the ledger
-      keeps the mark numbers. `recorded N` says that receipt N is on paper, and
-      that the ledger has it so. The first that isn't recorded gives `waiting N
-      WHY`, where WHY is `no link` or that of `send`, and ends it. If none
-      waits, nothing is printed. ADDRESS and --wait are those of `send`. If the
-      ledger can't be used, the line is that of `ledger`.
+      their numbers, as `send` does; the ledger keeps the mark numbers.
+      `recorded N` says that receipt N is on paper, and that the ledger has it
+      so; then the next one goes over the same link. `cancelled N` says that
+      somebody has taken N back since. The first that isn't recorded gives
+      `waiting N WHY`, where WHY is `no link` or that of `send`, and ends it. If
+      none waits, nothing is printed. ADDRESS and --wait are those of `send`. If
+      the ledger can't be used, the line is that of `ledger`.
 
       When the printer says that it prints nothing for now, `paused N WHY` tells
       it: `paper ended`, `cover open` or `offline`. Then P seconds instead of S

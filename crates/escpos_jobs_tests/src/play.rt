@@ -96,11 +96,23 @@ const RESYNCHRONISED_STORE: Row = (
     Status::Good,
 );
 
-const ROWS: [Row; 26] = [
-    // a host that is restarted with any number from its next mark's on: with none that is left, and with the greatest
+const ROWS: [Row; 28] = [
+    // a host that is restarted with any number from its next mark's on: with one whose id comes round, and with the greatest
     (
         b"host-restart 1679615\nlinkup\nmove 11\ndeliver 11\nhandover\nanswer 7\nhost-restart 1679616\nlinkup\nhost-restart 1679615\n",
-        b"ok\nok\nmoved 11\nfed 11 all\nhanded on\nheard 7 opened\nok\nrefused 2 MarksUsedUp\nrefused 5 MarkReused 1679616\npaper\nrecords 0\n",
+        b"ok\nok\nmoved 11\nfed 11 all\nhanded on\nheard 7 opened\nok\nok\nrefused 5 MarkReused 1679617\npaper\nrecords 0\n",
+        Status::Good,
+    ),
+    // a host that has heard no answer, and is restarted with as many numbers used as there are ids
+    (
+        b"host-restart 1679616\nlinkup\nhost-restart 1679616\n",
+        b"ok\nrefused 2 MarksUsedUp\nok\npaper\nrecords 0\n",
+        Status::Good,
+    ),
+    // late_for_two, where the ids of the marks are ZZZY, ZZZZ and 0000, and that of the next link 0001
+    (
+        b"host-restart 1679614\nlinkup\nmove 11\ndeliver 11\nhandover\nanswer 7\nsubmit [{\"line\":\"A\"}]\nsubmit [{\"line\":\"B\"}]\nmove 99\ndeliver 99\ndrop\nhandover\nlinkup\nleave\nhandover\nanswer 7\nmove 11\ndeliver 11\nhandover\nanswer 7\nhost-restart 1679617\n",
+        b"ok\nok\nmoved 11\nfed 11 all\nhanded on\nheard 7 opened\nok\nok\nmoved 30\nfed 30 all\nok\nhanded lost\nok\nok\nhanded on\nheard 7 recorded 1\nmoved 11\nfed 11 all\nhanded on\nheard 7 opened\nrefused 5 MarkReused 1679618\npaper\nrow left A\nfeed 1\nrow left B\nfeed 1\nrecords 2\n",
         Status::Good,
     ),
     (

@@ -23,8 +23,7 @@ use Rattle.escpos_command.specs.Laws.{IsRead, IsRefused}
 use Rattle.escpos_command.specs.Marks.{IsMarkOrNone, mark_id, marks}
 use Rattle.escpos_command.specs.Parameters.{is_mark_id}
 use Rattle.escpos_host.specs.Machine.{ask_reports}
-use Rattle.escpos_link.specs.Ways.{IsKnown, IsOpener, IsRest}
-use Rattle.escpos_link.proofs.Numbers.{OfNumbers}
+use Rattle.escpos_link.specs.Ways.{IsOpener, IsRest}
 
 -- What the layers below say of readings.
 pub record OfReadings : Type 0 where
@@ -47,28 +46,13 @@ pub record OfReadings : Type 0 where
 pub marks_append : (cs ds : List Command) → marks (cs ++ ds) ≡ marks cs ++ marks ds
 marks_append cs ds = flat_map-append (λ (c : Command). option_to_list (mark_id c)) cs ds
 
--- What is said of ids holds of ids of marks alone.
-abbrev pub OfIds : (List ℕ → Type 0) → Type 0
-OfIds K = (id : List ℕ) → K id → IsTrue (is_mark_id id)
+one_in_range : (c : Command) → IsOpener c → IsCommand c
+one_in_range c (inl (id, is, k)) = subst IsCommand (sym is) k
+one_in_range c (inr is) = subst IsCommand (sym is) refl
 
-pub known_ids : OfNumbers → (b : ℕ) → OfIds (IsKnown b)
-known_ids of b id (n, less, few, is) = subst (λ v. IsTrue (is_mark_id v)) is (of.ids n few)
-
-one_in_range : (K : List ℕ → Type 0) → OfIds K → (c : Command) → IsOpener K c → IsCommand c
-one_in_range K of c (inl (id, is, k)) = subst IsCommand (sym is) (of id k)
-one_in_range K of c (inr is) = subst IsCommand (sym is) refl
-
-pub commands_of : (K : List ℕ → Type 0) → OfIds K → (openers : List Command) → AllByRecursion (IsOpener K) openers → AreCommands openers
-commands_of K of [] k = tt
-commands_of K of (c ∷ openers) k = (one_in_range K of c k.0, commands_of K of openers k.1)
-
-more_known : (K : List ℕ → Type 0) (c : Command) (ids : List (List ℕ)) → IsOpener K c → AllByRecursion K ids → AllByRecursion K (option_to_list (mark_id c) ++ ids)
-more_known K c ids (inl (id, is, k)) all = subst (λ v. AllByRecursion K (option_to_list (mark_id v) ++ ids)) (sym is) (k, all)
-more_known K c ids (inr is) all = subst (λ v. AllByRecursion K (option_to_list (mark_id v) ++ ids)) (sym is) all
-
-pub known_marks : (K : List ℕ → Type 0) (openers : List Command) → AllByRecursion (IsOpener K) openers → AllByRecursion K (marks openers)
-known_marks K [] k = tt
-known_marks K (c ∷ openers) k = more_known K c (marks openers) k.0 (known_marks K openers k.1)
+pub commands_of : (openers : List Command) → AllByRecursion IsOpener openers → AreCommands openers
+commands_of [] k = tt
+commands_of (c ∷ openers) k = (one_in_range c k.0, commands_of openers k.1)
 
 pub reads_all : (cs : List Command) → AreCommands cs → Reads (spell cs) cs []
 reads_all cs are = record { commands = are; whole = sym (append-nil (spell cs)); rest_is = inl refl }
@@ -137,10 +121,11 @@ nothing_last (x ∷ a) b e = absurd cc
 -- ## Marks after whatever stood before them
 
 -- What is left when marks were put after a half command, and a part of them was delivered and read so: no mark was read; or
--- what is left of it, and what is still to come, are commands, whose marks have such ids together with those that were read.
-abbrev pub MayTurn : (List ℕ → Type 0) → List ℕ → List Command → List ℕ → Type 0
-MayTurn K later cs next =
-    (marks cs ≡ []) ⊎ ((others : List Command) × Reads (next ++ later) others [] × AllByRecursion K (marks cs ++ marks others))
+-- what is left of it, and what is still to come, are commands, whose marks are the last ones together with those that were read.
+abbrev pub MayTurn : List Command → List ℕ → List Command → List ℕ → Type 0
+MayTurn openers later cs next =
+    (marks cs ≡ [])
+    ⊎ ((others : List Command) × (missed : List (List ℕ)) × Reads (next ++ later) others [] × (marks openers ≡ missed ++ (marks cs ++ marks others)))
 
 row_begins : (id : List ℕ) → row (kind.Mark id) ≡ [] → ⊥
 row_begins id e = cc
@@ -155,91 +140,99 @@ none_left below h id cs next ok none r =
     subst (λ v. Reads v (kind.Mark id ∷ []) []) (append-nil (row (kind.Mark id))) (reads_all (kind.Mark id ∷ []) (ok, tt)) in
     (below.one_reading (row (kind.Mark id)) cs (kind.Mark id ∷ []) next [] (subst (λ v. Reads (v ++ row (kind.Mark id)) cs next) none r) one).1
 
+-- The same with one more opener before the others.
+later_turn : (c : Command) (openers : List Command) (later : List ℕ) (cs : List Command) (next : List ℕ) → MayTurn openers later cs next → MayTurn (c ∷ openers) later cs next
+later_turn c openers later cs next (inl none) = inl none
+later_turn c openers later cs next (inr (others, missed, goes, are)) =
+    inr (others, option_to_list (mark_id c) ++ missed, goes, ap (λ v. option_to_list (mark_id c) ++ v) are ∙ sym (append_assoc (option_to_list (mark_id c)) missed (marks cs ++ marks others)))
+
 -- A mark was read: what comes after it is read too, as far as it came.
-turned : OfReadings → (K : List ℕ → Type 0) → OfIds K → (id : List ℕ) (openers : List Command) (q later : List ℕ) (some cs : List Command) (next : List ℕ) → K id
-    → AllByRecursion (IsOpener K) openers → some ≡ kind.Mark id ∷ [] → q ++ later ≡ spell openers → Reads q cs next → MayTurn K later (some ++ cs) next
-turned below K of id openers q later some cs next first known is spelled reads =
-    let c = below.cut q later openers cs next (subst (λ v. Reads v openers []) (sym spelled) (reads_all openers (commands_of K of openers known))) reads in
+turned : OfReadings → (id : List ℕ) (openers : List Command) (q later : List ℕ) (some cs : List Command) (next : List ℕ)
+    → AllByRecursion IsOpener openers → some ≡ kind.Mark id ∷ [] → q ++ later ≡ spell openers → Reads q cs next → MayTurn (kind.Mark id ∷ openers) later (some ++ cs) next
+turned below id openers q later some cs next known is spelled reads =
+    let c = below.cut q later openers cs next (subst (λ v. Reads v openers []) (sym spelled) (reads_all openers (commands_of openers known))) reads in
     let same : marks (some ++ cs) ++ marks c.0 ≡ id ∷ marks openers =
     ap (λ v. marks (v ++ cs) ++ marks c.0) is ∙ ap (λ v. id ∷ v) (sym (marks_append cs c.0) ∙ ap marks (sym c.1)) in
-    inr (c.0, c.2, subst (AllByRecursion K) (sym same) (first, known_marks K openers known))
+    inr (c.0, [], c.2, sym same)
 
 -- A prefix of the first mark came, perhaps all of it.
-mark_came : OfReadings → (K : List ℕ → Type 0) → OfIds K → (id : List ℕ) (openers : List Command) (h q y later : List ℕ) (cs : List Command) (next : List ℕ) → IsRest h
-    → K id → AllByRecursion (IsOpener K) openers → row (kind.Mark id) ≡ q ++ y → later ≡ y ++ spell openers → Reads (h ++ q) cs next → MayTurn K later cs next
-mark_came below K of id openers h [] y later cs next rest first known is after reads = inl (ap marks (none_read below h [] cs next rest refl reads))
-mark_came below K of id openers h (x ∷ q) y later cs next rest first known is after reads =
-    let ok = of id first in
+mark_came : OfReadings → (id : List ℕ) (openers : List Command) (h q y later : List ℕ) (cs : List Command) (next : List ℕ) → IsRest h
+    → IsTrue (is_mark_id id) → AllByRecursion IsOpener openers → row (kind.Mark id) ≡ q ++ y → later ≡ y ++ spell openers → Reads (h ++ q) cs next
+    → MayTurn (kind.Mark id ∷ openers) later cs next
+mark_came below id openers h [] y later cs next rest ok known is after reads = inl (ap marks (none_read below h [] cs next rest refl reads))
+mark_came below id openers h (x ∷ q) y later cs next rest ok known is after reads =
     elim ((below.resynchronisation h (x ∷ q) y id cs next rest ok (λ e. cc e) is reads).none_else) [
       | inl none ↦ inl none
       | inr (front, whole, one) ↦
           let all : row (kind.Mark id) ≡ x ∷ q = is ∙ ap (λ v. (x ∷ q) ++ v) whole ∙ append-nil (x ∷ q) in
           let left = none_left below h id cs next ok front (subst (λ v. Reads (h ++ v) cs next) (sym all) reads) in
           let nothing : Reads [] [] next = subst (λ v. Reads [] [] v) (sym left) (record { commands = tt; whole = refl; rest_is = inl refl }) in
-          subst (λ v. MayTurn K later v next) (append-nil cs)
-          (turned below K of id openers [] later cs [] next first known one (after ∙ ap (λ v. v ++ spell openers) whole) nothing)
+          subst (λ v. MayTurn (kind.Mark id ∷ openers) later v next) (append-nil cs)
+          (turned below id openers [] later cs [] next known one (after ∙ ap (λ v. v ++ spell openers) whole) nothing)
     ]
 
 -- A prefix of the request came, perhaps all of it.
-request_came : OfReadings → (K : List ℕ → Type 0) (h q y later : List ℕ) (cs : List Command) (next : List ℕ) → IsRest h → row ask_reports ≡ q ++ y
-    → Reads (h ++ q) cs next → MayTurn K later cs next
-request_came below K h [] y later cs next rest is reads = inl (ap marks (none_read below h [] cs next rest refl reads))
-request_came below K h (x ∷ q) y later cs next rest is reads = inl (below.reporting h (x ∷ q) y cs next rest (λ e. cc e) is reads)
+request_came : OfReadings → (openers : List Command) (h q y later : List ℕ) (cs : List Command) (next : List ℕ) → IsRest h → row ask_reports ≡ q ++ y
+    → Reads (h ++ q) cs next → MayTurn openers later cs next
+request_came below openers h [] y later cs next rest is reads = inl (ap marks (none_read below h [] cs next rest refl reads))
+request_came below openers h (x ∷ q) y later cs next rest is reads = inl (below.reporting h (x ∷ q) y cs next rest (λ e. cc e) is reads)
 
-front_came : OfReadings → (K : List ℕ → Type 0) → OfIds K → (c : Command) (openers : List Command) (h q y later : List ℕ) (cs : List Command) (next : List ℕ) → IsRest h
-    → IsOpener K c → AllByRecursion (IsOpener K) openers → row c ≡ q ++ y → later ≡ y ++ spell openers → Reads (h ++ q) cs next → MayTurn K later cs next
-front_came below K of c openers h q y later cs next rest (inl (id, same, first)) known is after reads =
-    mark_came below K of id openers h q y later cs next rest first known (sym (ap row same) ∙ is) after reads
-front_came below K of c openers h q y later cs next rest (inr same) known is after reads =
-    request_came below K h q y later cs next rest (sym (ap row same) ∙ is) reads
+front_came : OfReadings → (c : Command) (openers : List Command) (h q y later : List ℕ) (cs : List Command) (next : List ℕ) → IsRest h
+    → IsOpener c → AllByRecursion IsOpener openers → row c ≡ q ++ y → later ≡ y ++ spell openers → Reads (h ++ q) cs next → MayTurn (c ∷ openers) later cs next
+front_came below c openers h q y later cs next rest (inl (id, same, ok)) known is after reads =
+    subst (λ v. MayTurn (v ∷ openers) later cs next) (sym same) (mark_came below id openers h q y later cs next rest ok known (sym (ap row same) ∙ is) after reads)
+front_came below c openers h q y later cs next rest (inr same) known is after reads =
+    request_came below (c ∷ openers) h q y later cs next rest (sym (ap row same) ∙ is) reads
 
 -- What holds for these commands, whatever stood before them.
-abbrev Behind : (List ℕ → Type 0) → List Command → Type 0
-Behind K openers = (h q later : List ℕ) (cs : List Command) (next : List ℕ) → IsRest h → q ++ later ≡ spell openers → Reads (h ++ q) cs next → MayTurn K later cs next
+abbrev Behind : List Command → Type 0
+Behind openers = (h q later : List ℕ) (cs : List Command) (next : List ℕ) → IsRest h → q ++ later ≡ spell openers → Reads (h ++ q) cs next → MayTurn openers later cs next
 
 -- The first of them was read as no mark: those after it are read as if nothing had come before.
-passed : (K : List ℕ → Type 0) (openers : List Command) (h q y later : List ℕ) (cs : List Command) (next : List ℕ) (b : List ℕ) → spell openers ≡ y ++ later
-    → (c : IsCut (h ++ b) y cs next) → marks c.some ≡ [] → Behind K openers → MayTurn K later cs next
-passed K openers h q y later cs next b after c none behind =
-    subst (λ v. MayTurn K later v next) (sym c.all)
+passed : (openers : List Command) (h q y later : List ℕ) (cs : List Command) (next : List ℕ) (b : List ℕ) → spell openers ≡ y ++ later
+    → (c : IsCut (h ++ b) y cs next) → marks c.some ≡ [] → Behind openers → MayTurn openers later cs next
+passed openers h q y later cs next b after c none behind =
+    subst (λ v. MayTurn openers later v next) (sym c.all)
     (elim (behind c.mid y later c.others next c.reads.rest_is (sym after) c.goes) [
       | inl also ↦ inl (marks_append c.some c.others ∙ ap (λ v. v ++ marks c.others) none ∙ also)
-      | inr (others, goes, ks) ↦
-          inr (others, goes, subst (λ v. AllByRecursion K (v ++ marks others)) (sym (marks_append c.some c.others ∙ ap (λ v. v ++ marks c.others) none)) ks)
+      | inr (others, missed, goes, are) ↦
+          inr (others, missed, goes, are ∙ ap (λ v. missed ++ (v ++ marks others)) (sym (marks_append c.some c.others ∙ ap (λ v. v ++ marks c.others) none)))
     ])
 
 -- All of the first came, and more.
-mark_passed : OfReadings → (K : List ℕ → Type 0) → OfIds K → (id : List ℕ) (openers : List Command) (h q y later : List ℕ) (cs : List Command) (next : List ℕ) → IsRest h
-    → K id → AllByRecursion (IsOpener K) openers → spell openers ≡ y ++ later → IsCut (h ++ row (kind.Mark id)) y cs next → Behind K openers → MayTurn K later cs next
-mark_passed below K of id openers h q y later cs next rest first known after c behind =
-    let ok = of id first in
+mark_passed : OfReadings → (id : List ℕ) (openers : List Command) (h q y later : List ℕ) (cs : List Command) (next : List ℕ) → IsRest h
+    → IsTrue (is_mark_id id) → AllByRecursion IsOpener openers → spell openers ≡ y ++ later → IsCut (h ++ row (kind.Mark id)) y cs next → Behind openers
+    → MayTurn (kind.Mark id ∷ openers) later cs next
+mark_passed below id openers h q y later cs next rest ok known after c behind =
     let one = below.resynchronisation h (row (kind.Mark id)) [] id c.some c.mid rest ok (row_begins id) (sym (append-nil (row (kind.Mark id)))) c.reads in
     elim one.none_else [
-      | inl none ↦ passed K openers h q y later cs next (row (kind.Mark id)) after c none behind
+      | inl none ↦ later_turn (kind.Mark id) openers later cs next (passed openers h q y later cs next (row (kind.Mark id)) after c none behind)
       | inr (front, whole, mark) ↦
           let left = none_left below h id c.some c.mid ok front c.reads in
-          subst (λ v. MayTurn K later v next) (sym c.all)
-          (turned below K of id openers y later c.some c.others next first known mark (sym after) (subst (λ v. Reads (v ++ y) c.others next) left c.goes))
+          subst (λ v. MayTurn (kind.Mark id ∷ openers) later v next) (sym c.all)
+          (turned below id openers y later c.some c.others next known mark (sym after) (subst (λ v. Reads (v ++ y) c.others next) left c.goes))
     ]
 
-all_came : OfReadings → (K : List ℕ → Type 0) → OfIds K → (c : Command) (openers : List Command) (h q y later : List ℕ) (cs : List Command) (next : List ℕ) → IsRest h
-    → IsOpener K c → AllByRecursion (IsOpener K) openers → spell openers ≡ y ++ later → IsCut (h ++ row c) y cs next → Behind K openers → MayTurn K later cs next
-all_came below K of c openers h q y later cs next rest (inl (id, same, first)) known after cut behind =
-    mark_passed below K of id openers h q y later cs next rest first known after (subst (λ v. IsCut (h ++ row v) y cs next) same cut) behind
-all_came below K of c openers h q y later cs next rest (inr same) known after cut behind =
+all_came : OfReadings → (c : Command) (openers : List Command) (h q y later : List ℕ) (cs : List Command) (next : List ℕ) → IsRest h
+    → IsOpener c → AllByRecursion IsOpener openers → spell openers ≡ y ++ later → IsCut (h ++ row c) y cs next → Behind openers → MayTurn (c ∷ openers) later cs next
+all_came below c openers h q y later cs next rest (inl (id, same, ok)) known after cut behind =
+    subst (λ v. MayTurn (v ∷ openers) later cs next) (sym same)
+    (mark_passed below id openers h q y later cs next rest ok known after (subst (λ v. IsCut (h ++ row v) y cs next) same cut) behind)
+all_came below c openers h q y later cs next rest (inr same) known after cut behind =
     let here = subst (λ v. IsCut (h ++ row v) y cs next) same cut in
-    passed K openers h q y later cs next (row ask_reports) after here
-    (below.reporting h (row ask_reports) [] here.some here.mid rest request_begins (sym (append-nil (row ask_reports))) here.reads) behind
+    later_turn c openers later cs next
+    (passed openers h q y later cs next (row ask_reports) after here
+    (below.reporting h (row ask_reports) [] here.some here.mid rest request_begins (sym (append-nil (row ask_reports))) here.reads) behind)
 
-pub may_turn : OfReadings → (K : List ℕ → Type 0) → OfIds K → (openers : List Command) → AllByRecursion (IsOpener K) openers → Behind K openers
-may_turn below K of [] known h q later cs next rest spelled reads =
+pub may_turn : OfReadings → (openers : List Command) → AllByRecursion IsOpener openers → Behind openers
+may_turn below [] known h q later cs next rest spelled reads =
     inl (ap marks (none_read below h q cs next rest (nothing_first q later spelled) reads))
-may_turn below K of (c ∷ openers) known h q later cs next rest spelled reads =
+may_turn below (c ∷ openers) known h q later cs next rest spelled reads =
     elim (fronts q later (row c) (spell openers) spelled) [
-      | inl (y, is, after) ↦ front_came below K of c openers h q y later cs next rest known.0 known.1 is after reads
+      | inl (y, is, after) ↦ front_came below c openers h q y later cs next rest known.0 known.1 is after reads
       | inr (y, is, after) ↦
           let whole = subst (λ v. Reads v cs next) (ap (λ v. h ++ v) is ∙ sym (append_assoc h (row c) y)) reads in
-          all_came below K of c openers h q y later cs next rest known.0 known.1 after
+          all_came below c openers h q y later cs next rest known.0 known.1 after
           (cut_reading below (h ++ row c) y cs next whole (below.read_or_refused (h ++ row c)))
-          (λ mid more still others last left spelling goes. may_turn below K of openers known.1 mid more still others last left spelling goes)
+          (λ mid more still others last left spelling goes. may_turn below openers known.1 mid more still others last left spelling goes)
     ]

@@ -1,5 +1,5 @@
 -- What happens to a wire, for the host at its end.
-use Rattle.std.proofs.Common.{◌≡◌, ◌≢◌, inl, inr, ℕ, List, [], ◌∷◌, ◌++◌, take, Option, Some, None, Result, Ok, Err, IfErr, refl, sym, ap, subst, arith}
+use Rattle.std.proofs.Common.{◌≡◌, ◌≢◌, ◌≤◌, inl, inr, ℕ, List, [], ◌∷◌, ◌++◌, take, Option, Some, None, Result, Ok, Err, IfErr, refl, sym, ap, subst, arith}
 use Rattle.std.specs.Prelude.{IfOk}
 use Rattle.escpos_command.specs.declared.command.Command.{Command}
 use Rattle.escpos_command.specs.Answers.{AreWholeAnswers, Hears}
@@ -16,7 +16,7 @@ use Rattle.escpos_link.specs.declared.event.Refused.{Refused}
 use Rattle.escpos_link.specs.EventTable.{After, IsRefused, hung_up, told_at}
 use Rattle.escpos_link.specs.Line.{IsLine, LineView}
 use Rattle.escpos_link.specs.Trusted.{IsTrusted, StillTrusted}
-use Rattle.escpos_link.specs.Ways.{IsRest, Way}
+use Rattle.escpos_link.specs.Ways.{Fresh, IsRest, Way}
 use Rattle.escpos_link.specs.Wire.{AfterOnWire, IsRefusedOnWire, WireView, given_up, heard_from, line_of, with_link}
 use Rattle.escpos_link.proofs.AfterHearing.{heard_line_is, off_line_is}
 use Rattle.escpos_link.proofs.Hearing.{all_on}
@@ -83,17 +83,23 @@ hung_up_by h after w up down = (refl, ap (λ v. line_of v (given_up w)) (hung_up
 
 -- ## A link that is given up with nothing on it
 
-idle_way : (width : ℕ) (phase : Phase) (out : List ℕ) (next : ℕ) (records : List (List Command)) (sheet : Sheet) (half : List ℕ) (ended : List (List ℕ))
-    (live : Option (List ℕ)) (pending : List (List ℕ)) → live ≡ None → phase ≡ Down → IsRest half → Way width phase out next records sheet half ended live pending
-    → Way width phase out next records sheet half (ended ++ [] ∷ []) None pending
-idle_way width phase out next records sheet half ended (Some bytes) pending none is_down rest w = absurd (cc none)
-idle_way width phase out next records sheet half ended None pending none is_down rest (inl w) = absurd (w.up is_down)
-idle_way width phase out next records sheet half ended None pending none is_down rest (inr w) =
+nothing_put : (n : ℕ) → Fresh n n []
+nothing_put n = let same : n ≤ n = omega arith in ([], tt, same, refl)
+
+idle_way : (width : ℕ) (phase : Phase) (out : List ℕ) (next heard : ℕ) (records : List (List Command)) (sheet : Sheet) (half : List ℕ) (ended : List (List ℕ))
+    (live : Option (List ℕ)) (pending : List (List ℕ)) → live ≡ None → phase ≡ Down → IsRest half → Way width phase out next heard records sheet half ended live pending
+    → Way width phase out next heard records sheet half (ended ++ [] ∷ []) None pending
+idle_way width phase out next heard records sheet half ended (Some bytes) pending none is_down rest w = absurd (cc none)
+idle_way width phase out next heard records sheet half ended None pending none is_down rest (inl w) = absurd (w.up is_down)
+idle_way width phase out next heard records sheet half ended None pending none is_down rest (inr w) =
     inr (record {
       down = w.down;
       stands = w.stands;
+      reach = w.reach;
+      end = w.end;
+      within = w.within;
       known = w.known;
-      given_up = given_add next next half ended [] [] (omega arith) w.given_up (newest_next next half ended [] rest ([], tt, refl));
+      given_up = given_add w.reach w.end w.end half ended [] [] w.given_up (newest_next w.end w.end half ended [] rest (nothing_put w.end));
     })
 
 pub idle_trusted : (h : HostView) (w : WireView) → h.phase ≡ Down → IsLine (line_of h w) → IsTrusted (line_of h w)
@@ -106,10 +112,10 @@ idle_trusted h w is_down i trusted =
           hears = subst (λ v. Hears (h.half ++ v) t.answers []) (i.quiet is_down) t.hears;
           half = t.half;
           reached = t.reached;
-          way = idle_way w.printer.sheet.line_dots h.phase h.out h.next h.records w.printer.sheet w.printer.half w.ended w.live _ (i.down is_down) is_down t.half t.way;
+          way = idle_way w.printer.sheet.line_dots h.phase h.out h.next h.heard h.records w.printer.sheet w.printer.half w.ended w.live _ (i.down is_down) is_down t.half t.way;
         };
-        left = λ not_open. all_on w.printer.sheet.line_dots h.records h.left (line_of h w) (line_of h (given_up (with_link w))) (λ id known. known)
-            (λ rs p known promise. idle_promised h w rs p is_down i t promise) (trusted.left not_open);
+        left = λ not_open. all_on w.printer.sheet.line_dots h.records h.left (line_of h w) (line_of h (given_up (with_link w))) (omega arith) (omega arith)
+            (λ rs p put mark out promise. idle_promised h w rs p is_down i t promise) (trusted.left not_open);
       },
       refl,
     )

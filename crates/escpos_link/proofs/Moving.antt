@@ -34,7 +34,7 @@ put_on_both (Some bytes) xs ys = ap Some (append_assoc bytes xs ys)
 pub moved_more : (h now after : HostView) (live on later : Option (List ℕ)) (n k : ℕ) → HasMoved h live n now on → HasMoved now on k after later → HasMoved h live (n + k) after later
 moved_more h now after live on later n k first second = (
   second.0 ∙ ap (λ v. taken_out v k) first.0
-      ∙ ap (λ out. record { phase = h.phase; out = out; half = h.half; next = h.next; records = h.records; left = h.left }) (drop-drop k n h.out),
+      ∙ ap (λ out. record { phase = h.phase; out = out; half = h.half; next = h.next; heard = h.heard; records = h.records; left = h.left }) (drop-drop k n h.out),
   second.1 ∙ ap (λ v. put_on on (take k v.out)) first.0 ∙ ap (λ v. put_on v (take k (drop n h.out))) first.1 ∙ put_on_both live (take n h.out) (take k (drop n h.out))
       ∙ ap (put_on live) (sym (take-add n k h.out)),
 )

@@ -1,5 +1,5 @@
 -- A promise stays after each event of a line that can be trusted, and after each refusal; and a late answer is one for which it is kept.
-use Rattle.std.proofs.Common.{◌≡◌, ◌≢◌, ◌<◌, ◌≤◌, inl, inr, ℕ, List, [], ◌∷◌, ◌++◌, length, take, drop, refl, sym, ◌∙◌, ap, subst, append-nil, append_assoc, IsTrue}
+use Rattle.std.proofs.Common.{◌≡◌, ◌≢◌, ◌<◌, ◌≤◌, ◌+◌, arith, inl, inr, ℕ, List, [], ◌∷◌, ◌++◌, length, take, drop, refl, sym, ◌∙◌, ap, subst, append-nil, append_assoc, IsTrue}
 use Rattle.std.specs.Prelude.{None, option_to_list}
 use Rattle.std.specs.List.{AllByRecursion}
 use Rattle.escpos_command.specs.declared.answer.Answer.{Answer}
@@ -8,7 +8,8 @@ use Rattle.escpos_command.specs.declared.command.Command.{Command}
 use Rattle.escpos_command.specs.declared.command.Command.TheVariants as kind
 use Rattle.escpos_command.specs.Answers.{Hears, answer_bytes, is_answer, spell_answers}
 use Rattle.escpos_command.specs.CommandTable.{AreCommands, IsCommand, row}
-use Rattle.escpos_command.specs.Digits.{mark_count, mark_of}
+use Rattle.escpos_command.specs.Digits.{mark_count}
+use Rattle.escpos_host.specs.Counted.{id_of}
 use Rattle.escpos_command.specs.Marks.{mark_id, marks}
 use Rattle.escpos_paper.specs.Page.{SheetIs}
 use Rattle.escpos_printer.specs.declared.printer.FeedStop.{FeedStop}
@@ -26,10 +27,10 @@ use Rattle.escpos_link.specs.declared.event.Note.{Note}
 use Rattle.escpos_link.specs.declared.event.Note.TheVariants as note
 use Rattle.escpos_link.specs.EventTable.{After, HandsOver, Leaves, Restarted, answers_left, delivered, ended_fed, first_link, heard_to, hung_up, left_by, live_fed, off_link, on_its_way, restarted, told_at, with_host, with_new_link, with_printer, without_first}
 use Rattle.escpos_link.specs.Line.{IsLine, LineView}
-use Rattle.escpos_link.specs.Promised.{IsIn, IsOther, PromisedBy, PromisedIn}
+use Rattle.escpos_link.specs.Promised.{AreOther, IsIn, PromisedBy, PromisedIn}
 use Rattle.escpos_link.specs.Promising.{PutsOther, with_records}
 use Rattle.escpos_link.specs.Trusted.{AllPromised, IsFitting, Trusted}
-use Rattle.escpos_link.specs.Ways.{FreshOf, IsRest, Known, OnWay, answered, answered_marks, closing_marks, flight_of}
+use Rattle.escpos_link.specs.Ways.{FreshOf, IsRest, OnWay, Rising, answered, answered_marks, flight_of}
 use Rattle.escpos_link.specs.Stands.{Stands}
 use Rattle.escpos_link.specs.Wire.{WireView, given_up, line_of, with_link}
 use Rattle.escpos_link.proofs.Aligning.{marks_append}
@@ -37,14 +38,15 @@ use Rattle.escpos_link.proofs.Hearing.{Staying, answered_promised, goes_first, s
 use Rattle.escpos_link.proofs.Feeding.{Read}
 use Rattle.escpos_link.proofs.Leaving.{items_are}
 use Rattle.escpos_link.proofs.Links.{mark_fresh, request_fresh}
+use Rattle.escpos_link.proofs.Numbers.{rising_within}
 use Rattle.escpos_link.proofs.Promises.{fed_for, fewer_for, idle_for, in_back, in_front, in_join, leaves_for, moved_for, nudged_for, off_for, opened_for}
-use Rattle.escpos_link.proofs.Promising.{flight_known, in_flight_for, made_for, put_open_for, receipts_join, recorded_way}
+use Rattle.escpos_link.proofs.Promising.{flight_rising, in_flight_for, made_for, put_open_for, receipts_join, recorded_way}
 use Rattle.escpos_link.proofs.WayKept.{changed_marks, Laws, are_join, grown, marks_join, none_heard, stopped, width_is}
 use Rattle.escpos_link.proofs.Turning.{Goes, Holding, OfAnswers, by_one, one_heard}
 
 -- ## What the host does
 
-opened_promised : (width : ℕ) (l : LineView) (host : HostView) (rs : List (List Command)) (p : InFlight) → IsLine l → l.host.phase ≡ Down → host.half ≡ [] → FreshOf (IsOther p.mark) host.out
+opened_promised : (width : ℕ) (l : LineView) (host : HostView) (rs : List (List Command)) (p : InFlight) → IsLine l → l.host.phase ≡ Down → host.half ≡ [] → FreshOf (AreOther p.mark) host.out
     → IsRest l.printer.half → PromisedIn width rs p l → PromisedIn width rs p (with_new_link l host)
 opened_promised width l host rs p i is_down none fresh rest w = record {
   answers = [];
@@ -59,17 +61,17 @@ put_promised : (width : ℕ) (l : LineView) (rs : List (List Command)) (p : InFl
 put_promised width l rs p host w same by = record { answers = w.answers; hears = subst (λ v. Hears (v ++ l.coming) w.answers []) (sym same) w.hears; by = by }
 
 submitted_promised : (width : ℕ) → Laws → (l : LineView) (rs : List (List Command)) (p : InFlight) (flight : List InFlight) (receipt : List Command) → l.host.phase ≡ Open flight → HasMark l.host
-    → IsFitting (event.Submit receipt) → mark_of l.host.next ≢ p.mark → OnWay width l → PromisedIn width rs p l → PromisedIn width rs p (with_host l (submitted l.host flight receipt))
+    → IsFitting (event.Submit receipt) → id_of l.host.next ≢ p.mark → OnWay width l → PromisedIn width rs p l → PromisedIn width rs p (with_host l (submitted l.host flight receipt))
 submitted_promised width laws l rs p flight receipt is few fits other t w =
-    let m = kind.Mark (mark_of l.host.next) in
-    let id = laws.numbers.ids l.host.next few in
+    let m = kind.Mark (id_of l.host.next) in
+    let id = laws.numbers.ids l.host.next in
     let cs = kind.Init ∷ (receipt ++ m ∷ []) in
     let are : AreCommands cs = (refl, are_join receipt (m ∷ []) fits.1 (id, tt)) in
-    let only : marks cs ≡ mark_of l.host.next ∷ [] = marks_append receipt (m ∷ []) ∙ ap (λ v. v ++ mark_of l.host.next ∷ []) fits.0 in
+    let only : marks cs ≡ id_of l.host.next ∷ [] = marks_append receipt (m ∷ []) ∙ ap (λ v. v ++ id_of l.host.next ∷ []) fits.0 in
     put_promised width l rs p (submitted l.host flight receipt) w refl
-    (put_open_for width laws.readings laws.paper l.host.phase l.host.out l.host.next p l.host.records rs l.printer.sheet l.printer.half l.ended l.live
+    (put_open_for width laws.readings laws.paper l.host.phase l.host.out l.host.next l.host.heard p l.host.records rs l.printer.sheet l.printer.half l.ended l.live
     (answered_marks (w.answers ++ l.printer.waiting)) (answered_marks (t.answers ++ l.printer.waiting)) flight cs is are
-    (subst (AllByRecursion (IsOther p.mark)) (sym only) ((id, other), tt)) t.way w.by)
+    (subst (AreOther p.mark) (sym only) ((id, other), tt)) t.way w.by)
 
 asked_promised : (width : ℕ) → Laws → (l : LineView) (host : HostView) (rs : List (List Command)) (p : InFlight) (c : Command) → l.host.phase ≡ Open [] → IsCommand c → mark_id c ≡ None
     → host.half ≡ l.host.half → host.out ≡ l.host.out ++ row c → OnWay width l → PromisedIn width rs p l → PromisedIn width rs p (with_host l host)
@@ -77,9 +79,9 @@ asked_promised width laws l host rs p c is fits none half out t w =
     put_promised width l rs p host w half
     (subst (λ v. PromisedBy width p rs v l.printer.sheet l.printer.half l.ended l.live (answered_marks (w.answers ++ l.printer.waiting)))
     (ap (λ v. l.host.out ++ v) (append-nil (row c)) ∙ sym out)
-    (put_open_for width laws.readings laws.paper l.host.phase l.host.out l.host.next p l.host.records rs l.printer.sheet l.printer.half l.ended l.live
+    (put_open_for width laws.readings laws.paper l.host.phase l.host.out l.host.next l.host.heard p l.host.records rs l.printer.sheet l.printer.half l.ended l.live
     (answered_marks (w.answers ++ l.printer.waiting)) (answered_marks (t.answers ++ l.printer.waiting)) [] (c ∷ []) is (fits, tt)
-    (subst (AllByRecursion (IsOther p.mark)) (sym (ap (λ v. option_to_list v ++ []) none)) tt) t.way w.by))
+    (subst (AreOther p.mark) (sym (ap (λ v. option_to_list v ++ []) none)) tt) t.way w.by))
 
 -- The host is off its link.
 pub off_promised : (width : ℕ) (l : LineView) (rs : List (List Command)) (p : InFlight) (host : HostView) → host.half ≡ [] → PromisedIn width rs p l → PromisedIn width rs p (off_link (with_host l host))
@@ -186,7 +188,7 @@ hands_promised width laws l after rs p handed.On i (a, answers, waits, links, li
 -- ## A late answer
 
 late_mark : (h : HostView) (a : Answer) (id : List ℕ) (after : HostView) → Turns h a (heard.Late id) after → a ≡ answer.Mark id
-late_mark h a id after (first, phase, is, other, unleft, same) = is
+late_mark h a id after (first, phase, is, other, unleft, told) = is
 
 -- It is one of the answers that were to come.
 one_late : (P : Holding) → OfAnswers → (h next : HostView) (bytes more : List ℕ) (count : ℕ) (id : List ℕ) (g : Goes P h (bytes ++ more)) → IsHeard h bytes count (heard.Late id) next
@@ -198,9 +200,9 @@ one_late P below h next bytes more count id g came =
     (in_back id (answered_marks b.before) (answered_marks (b.answer ∷ b.others))
     (subst (λ a. IsIn id (answered a ++ answered_marks b.others)) (sym is) (inl refl)))
 
-in_all : (width : ℕ) (l : LineView) (all : List Answer) (phase : Phase) (out : List ℕ) (next : ℕ) (records : List (List Command)) (left : List InFlight) (answers : List Answer)
-    (id : List ℕ) → Staying width l all phase out next records left answers → IsIn id (answered_marks answers) → IsIn id (answered_marks all)
-in_all width l all phase out next records left answers id s is =
+in_all : (width : ℕ) (l : LineView) (all : List Answer) (phase : Phase) (out : List ℕ) (next heard : ℕ) (records : List (List Command)) (left : List InFlight) (answers : List Answer)
+    (id : List ℕ) → Staying width l all phase out next heard records left answers → IsIn id (answered_marks answers) → IsIn id (answered_marks all)
+in_all width l all phase out next heard records left answers id s is =
     subst (IsIn id) (sym (ap answered_marks s.split ∙ marks_join s.before answers)) (in_back id (answered_marks s.before) (answered_marks answers) is)
 
 late_in_turn : (width : ℕ) → Laws → (l : LineView) (t : Trusted width l) (events : List HostEvent) (h after : HostView) (bytes more : List ℕ) (consumed : ℕ) (id : List ℕ)
@@ -209,7 +211,7 @@ late_in_turn width laws l t [] h after bytes more consumed id g hears last = abs
 late_in_turn width laws l t (e ∷ es) h after bytes more consumed id g (count, next, some, came, inl (ends, none, same_count, same)) last =
     let one = one_heard (Staying width l t.on_way.answers) laws.answers (staying width laws l t) h next bytes more count e some g came in absurd (one.on ends)
 late_in_turn width laws l t (e ∷ []) h after bytes more consumed id g (count, next, some, came, inr (on, later)) last =
-    in_all width l t.on_way.answers h.phase h.out h.next h.records h.left g.answers id g.holds
+    in_all width l t.on_way.answers h.phase h.out h.next h.heard h.records h.left g.answers id g.holds
     (one_late (Staying width l t.on_way.answers) laws.answers h next bytes more count id g (subst (λ v. IsHeard h bytes count v next) last came))
 late_in_turn width laws l t (e ∷ f ∷ es) h after bytes more consumed id g (count, next, some, came, inr (on, (rest, sum, others))) last =
     let one = one_heard (Staying width l t.on_way.answers) laws.answers (staying width laws l t) h next bytes more count e some g came in
@@ -240,14 +242,14 @@ pub promised : (width : ℕ) → Laws → (e : Event) (l after : LineView) (n : 
     → PutsOther e l.host p.mark → PromisedIn width rs p l → PromisedIn width rs p after
 promised width laws event.LinkUp l after n rs p fits sound i (done, is_down, few, same) t other w =
     subst (PromisedIn width rs p) (sym same)
-    (opened_promised width l (linked l.host) rs p i is_down refl (mark_fresh (IsOther p.mark) (mark_of l.host.next) (laws.numbers.ids l.host.next few, other)) t.on_way.half w)
+    (opened_promised width l (linked l.host) rs p i is_down refl (mark_fresh (AreOther p.mark) (id_of l.host.next) (laws.numbers.ids l.host.next) ((laws.numbers.ids l.host.next, other), tt)) t.on_way.half w)
 promised width laws event.LinkUpReporting l after n rs p fits sound i (done, is_down, few, same) t other w =
     subst (PromisedIn width rs p) (sym same)
-    (opened_promised width l (linked_reporting l.host) rs p i is_down refl (request_fresh (IsOther p.mark) (mark_of l.host.next) (laws.numbers.ids l.host.next few, other)) t.on_way.half w)
+    (opened_promised width l (linked_reporting l.host) rs p i is_down refl (request_fresh (AreOther p.mark) (id_of l.host.next) (laws.numbers.ids l.host.next) ((laws.numbers.ids l.host.next, other), tt)) t.on_way.half w)
 promised width laws event.Nudge l after n rs p fits sound i (done, opening, few, same) t other w =
     subst (PromisedIn width rs p) (sym same)
     (put_promised width l rs p (nudged l.host) w refl
-    (nudged_for width laws.readings laws.paper p rs l.host.out l.printer.sheet l.printer.half (mark_of l.host.next) l.ended l.live _ (laws.numbers.ids l.host.next few, other) w.by))
+    (nudged_for width laws.readings laws.paper p rs l.host.out l.printer.sheet l.printer.half (id_of l.host.next) l.ended l.live _ (laws.numbers.ids l.host.next, other) w.by))
 promised width laws (event.Submit receipt) l after n rs p fits sound i (flight, done, is, room, few, same) t other w =
     subst (PromisedIn width rs p) (sym same) (submitted_promised width laws l rs p flight receipt is few fits other t.on_way w)
 promised width laws (event.Ask asks) l after n rs p fits sound i (done, is, same) t other w =
@@ -307,11 +309,11 @@ pub still_promised : (l after : LineView) (rs : List (List Command)) (p : InFlig
     → PromisedIn after.printer.sheet.line_dots rs p after
 still_promised l after rs p t w = subst (λ v. PromisedIn v rs p after) (sym (width_is l.printer.sheet.line_dots after t)) w
 
-pub made_promised : (width : ℕ) → Laws → (l : LineView) (rs : List (List Command)) (p : InFlight) (n : ℕ) → OnWay width l → l.host.next ≤ n → n < mark_count → p.mark ≡ mark_of n → PromisedIn width rs p l
-made_promised width laws l rs p n t least few mark = record {
+pub made_promised : (width : ℕ) → Laws → (l : LineView) (rs : List (List Command)) (p : InFlight) (n : ℕ) → OnWay width l → l.host.next ≤ n → n < l.host.heard + mark_count → p.mark ≡ id_of n → PromisedIn width rs p l
+made_promised width laws l rs p n t least near mark = record {
   answers = t.answers;
   hears = t.hears;
-  by = made_for width laws.numbers l.host.phase l.host.out l.host.next n p l.host.records rs l.printer.sheet l.printer.half l.ended l.live _ t.reached.0 t.reached.1 t.reached.2 least few mark
+  by = made_for width laws.numbers l.host.phase l.host.out l.host.next l.host.heard n p l.host.records rs l.printer.sheet l.printer.half l.ended l.live _ t.reached.0 t.reached.1 t.reached.2 least near mark
       t.way;
 }
 
@@ -321,31 +323,32 @@ pub flying_promised : (width : ℕ) → Laws → (l : LineView) (flight before :
 flying_promised width laws l flight before p others t is split = record {
   answers = t.answers;
   hears = t.hears;
-  by = in_flight_for width laws.numbers laws.paper l.host.phase l.host.out l.host.next flight before p others l.host.records l.printer.sheet l.printer.half l.ended l.live _ is split t.way;
+  by = in_flight_for width laws.numbers laws.paper l.host.phase l.host.out l.host.next l.host.heard flight before p others l.host.records l.printer.sheet l.printer.half l.ended l.live _ is split t.way;
 }
 
 pub only_promised : (width : ℕ) → Laws → (l : LineView) (p : InFlight) → OnWay width l → l.host.phase ≡ Open (p ∷ []) → PromisedIn width l.host.records p l
 only_promised width laws l p t is = subst (λ rs. PromisedIn width rs p l) (append-nil l.host.records) (flying_promised width laws l (p ∷ []) [] p [] t is refl)
 
-known_after : (width : ℕ) (l : LineView) (flight : List InFlight) → OnWay width l → l.host.phase ≡ Open flight → Known l.host.next (closing_marks flight)
-known_after width l flight t is =
-    flight_known width l.host.phase l.host.out l.host.next l.host.records l.printer.sheet l.printer.half l.ended l.live (answered_marks (t.answers ++ l.printer.waiting)) flight is t.way
+rising_after : (width : ℕ) (l : LineView) (flight : List InFlight) → OnWay width l → l.host.phase ≡ Open flight → (base : ℕ) × Rising base flight l.host.next
+rising_after width l flight t is =
+    flight_rising width l.host.phase l.host.out l.host.next l.host.heard l.host.records l.printer.sheet l.printer.half l.ended l.live (answered_marks (t.answers ++ l.printer.waiting)) flight is t.way
 
-all_from : (width : ℕ) → Laws → (l : LineView) (flight before rest : List InFlight) → OnWay width l → l.host.phase ≡ Open flight → flight ≡ before ++ rest
-    → Known l.host.next (closing_marks rest) → AllPromised width (l.host.records ++ receipts_of before) rest l
-all_from width laws l flight before [] t is split known = tt
-all_from width laws l flight before (p ∷ rest) t is split known =
+all_from : (width : ℕ) → Laws → (l : LineView) (flight before rest : List InFlight) (base : ℕ) → OnWay width l → l.host.phase ≡ Open flight → flight ≡ before ++ rest
+    → Rising base rest l.host.next → AllPromised width (l.host.records ++ receipts_of before) rest l
+all_from width laws l flight before [] base t is split rising = tt
+all_from width laws l flight before (p ∷ rest) base t is split (from, mark, rising) =
+    let within = rising_within (p.number + 1) l.host.next rest rising in
     let more : (l.host.records ++ receipts_of before) ++ p.receipt ∷ [] ≡ l.host.records ++ receipts_of (before ++ p ∷ []) =
     append_assoc l.host.records (receipts_of before) (p.receipt ∷ []) ∙ ap (λ v. l.host.records ++ v) (sym (receipts_join before (p ∷ []))) in (
-      known.0,
-      flying_promised width laws l flight before p rest t is split,
+      record { put = omega (arith, within); mark = mark; promise = λ out. flying_promised width laws l flight before p rest t is split },
       subst (λ rs. AllPromised width rs rest l) (sym more)
-          (all_from width laws l flight (before ++ p ∷ []) rest t is (split ∙ sym (append_assoc before (p ∷ []) rest)) known.1),
+          (all_from width laws l flight (before ++ p ∷ []) rest (p.number + 1) t is (split ∙ sym (append_assoc before (p ∷ []) rest)) rising),
     )
 
 pub all_flying : (width : ℕ) → Laws → (l : LineView) (flight : List InFlight) → OnWay width l → l.host.phase ≡ Open flight → AllPromised width l.host.records flight l
 all_flying width laws l flight t is =
-    subst (λ rs. AllPromised width rs flight l) (append-nil l.host.records) (all_from width laws l flight [] flight t is refl (known_after width l flight t is))
+    let r = rising_after width l flight t is in
+    subst (λ rs. AllPromised width rs flight l) (append-nil l.host.records) (all_from width laws l flight [] flight r.0 t is refl r.1)
 
 pub idle_promised : (h : HostView) (w : WireView) (rs : List (List Command)) (p : InFlight) → h.phase ≡ Down → IsLine (line_of h w) → OnWay w.printer.sheet.line_dots (line_of h w)
     → PromisedIn w.printer.sheet.line_dots rs p (line_of h w) → PromisedIn w.printer.sheet.line_dots rs p (line_of h (given_up (with_link w)))
@@ -363,7 +366,7 @@ recorded_trusted l records t none s = record {
     hears = t.on_way.hears;
     half = t.on_way.half;
     reached = t.on_way.reached;
-    way = recorded_way l.printer.sheet.line_dots l.host.phase l.host.out l.host.next l.host.records records l.printer.sheet l.printer.half l.ended l.live _ none s t.on_way.way;
+    way = recorded_way l.printer.sheet.line_dots l.host.phase l.host.out l.host.next l.host.heard l.host.records records l.printer.sheet l.printer.half l.ended l.live _ none s t.on_way.way;
   };
   left = λ not_open. tt;
 }

@@ -12,19 +12,16 @@ use Rattle.escpos_paper.specs.Page.{Sheet, SheetIs}
 use Rattle.escpos_paper.specs.Printed.{printed}
 use Rattle.escpos_host.specs.Machine.{InFlight}
 use Rattle.escpos_link.specs.EventTable.{ended_fed, first_of, live_fed, live_left, put_on}
-use Rattle.escpos_link.specs.Promised.{Fulfils, GivenUpFor, IsIn, IsOther, KeepsOn, LiveFor, NewestFor, PromisedBy, ServedFor, StandsNext}
+use Rattle.escpos_link.specs.Promised.{AreOther, Fulfils, GivenUpFor, IsIn, IsOther, KeepsOn, LiveFor, NewestFor, PromisedBy, ServedFor, StandsNext}
 use Rattle.escpos_link.specs.Ways.{FreshOf, IsRest, LateOf, UnreadOf}
 use Rattle.escpos_link.proofs.AfterPutting.{kept_bytes}
-use Rattle.escpos_link.proofs.Aligning.{OfIds, OfReadings, fronts, marks_append, none_read}
+use Rattle.escpos_link.proofs.Aligning.{OfReadings, fronts, marks_append, none_read}
 use Rattle.escpos_link.proofs.Claiming.{OfPaper, more_printed}
 use Rattle.escpos_link.proofs.Feeding.{Read, fed_split, none_fed, still_stands}
 use Rattle.escpos_link.proofs.Leaving.{items_are}
-use Rattle.escpos_link.proofs.Links.{fresh_add, fresh_unread, late_add, step_add, unread_add, unread_on}
+use Rattle.escpos_link.proofs.Links.{Grows, OfTails, fresh_add, fresh_unread, late_add, step_add, unread_add, unread_on}
 
 -- ## Ids
-
-pub other_ids : (id : List ℕ) → OfIds (IsOther id)
-other_ids id x (mark, other) = mark
 
 -- An id among these is none that they all differ from.
 pub not_in : (id : List ℕ) (xs : List (List ℕ)) → AllByRecursion (IsOther id) xs → IsIn id xs → ⊥
@@ -53,17 +50,28 @@ pub all_back : (K : List ℕ → Type 0) (xs ys : List (List ℕ)) → AllByRecu
 all_back K [] ys all = all
 all_back K (x ∷ xs) ys all = all_back K xs ys all.1
 
+pub all_join : (K : List ℕ → Type 0) (xs ys : List (List ℕ)) → AllByRecursion K xs → AllByRecursion K ys → AllByRecursion K (xs ++ ys)
+all_join K [] ys all more = more
+all_join K (x ∷ xs) ys all more = (all.0, all_join K xs ys all.1 more)
+
 pub all_front : (K : List ℕ → Type 0) (xs ys : List (List ℕ)) → AllByRecursion K (xs ++ ys) → AllByRecursion K xs
 all_front K [] ys all = tt
 all_front K (x ∷ xs) ys all = (all.0, all_front K xs ys all.1)
 
+-- What holds of all holds of the last ones, and with one more for which it holds.
+other_tails : (id : List ℕ) → OfTails (AreOther id)
+other_tails id xs ys all = all_back (IsOther id) xs ys all
+
+other_grows : (id x : List ℕ) → IsOther id x → Grows (AreOther id) (AreOther id) (kind.Mark x)
+other_grows id x one ids all = all_join (IsOther id) ids (x ∷ []) all (one, tt)
+
 -- ## Commands that are due
 
 -- Among marks that all differ from it the promise says nothing.
-pub fulfils_none : (width : ℕ) (p : InFlight) (records : List (List Command)) (kept : List Item) (ran due : List Command) → AllByRecursion (IsOther p.mark) (marks due)
+pub fulfils_none : (width : ℕ) (p : InFlight) (records : List (List Command)) (kept : List Item) (ran due : List Command) → AreOther p.mark (marks due)
     → Fulfils width p records kept ran due
 fulfils_none width p records kept ran due all a b split is =
-    absurd (not_in p.mark (marks a) (all_front (IsOther p.mark) (marks a) (marks b) (subst (AllByRecursion (IsOther p.mark)) (ap marks split ∙ marks_append a b) all)) is)
+    absurd (not_in p.mark (marks a) (all_front (IsOther p.mark) (marks a) (marks b) (subst (AreOther p.mark) (ap marks split ∙ marks_append a b) all)) is)
 
 -- Some of them are run.
 pub fulfils_on : (width : ℕ) (p : InFlight) (records : List (List Command)) (kept : List Item) (ran due cs others : List Command) → due ≡ cs ++ others
@@ -74,7 +82,7 @@ fulfils_on width p records kept ran due cs others split f a b more is =
 
 -- More are put after them, with other marks alone.
 pub fulfils_more : (width : ℕ) → OfPaper → (p : InFlight) (records : List (List Command)) (kept : List Item) (ran due cs : List Command)
-    → AllByRecursion (IsOther p.mark) (marks cs) → Fulfils width p records kept ran due → Fulfils width p records kept ran (due ++ cs)
+    → AreOther p.mark (marks cs) → Fulfils width p records kept ran due → Fulfils width p records kept ran (due ++ cs)
 fulfils_more width paper p records kept ran due cs all f a b split is = elim (fronts a b due cs (sym split)) [
   | inl (y, whole, rest) ↦ f a y whole is
   | inr (y, whole, rest) ↦ elim (in_join p.mark (marks due) (marks y) (subst (IsIn p.mark) (ap marks whole ∙ marks_append due y) is)) [
@@ -82,7 +90,7 @@ fulfils_more width paper p records kept ran due cs all f a b split is = elim (fr
         subst (λ v. StandsNext width p records (kept ++ printed width v)) (append_assoc ran due y ∙ ap (λ v. ran ++ v) (sym whole))
         (more_printed width paper (records ++ p.receipt ∷ []) kept (ran ++ due) y (f due [] (sym (append-nil due)) before))
     | inr later ↦
-        absurd (not_in p.mark (marks y) (all_front (IsOther p.mark) (marks y) (marks b) (subst (AllByRecursion (IsOther p.mark)) (ap marks rest ∙ marks_append y b) all)) later)
+        absurd (not_in p.mark (marks y) (all_front (IsOther p.mark) (marks y) (marks b) (subst (AreOther p.mark) (ap marks rest ∙ marks_append y b) all)) later)
   ]
 ]
 
@@ -92,7 +100,7 @@ fulfils_more width paper p records kept ran due cs all f a b split is = elim (fr
 pub aligned_for : (width : ℕ) → OfReadings → (p : InFlight) (records : List (List Command)) (sheet : Sheet) (half stream : List ℕ) (due : List Command) (kept : List Item)
     (ran : List Command) → SheetIs width sheet kept ran → Reads (half ++ stream) due [] → ServedFor width p records sheet half stream → KeepsOn width p records sheet half stream
 aligned_for width below p records sheet half stream due kept ran is aligned (inl u) =
-    let turn = unread_on below (IsOther p.mark) (other_ids p.mark) half stream [] [] due (subst (UnreadOf (IsOther p.mark) half) (sym (append-nil stream)) u) aligned in
+    let turn = unread_on below (AreOther p.mark) (other_tails p.mark) half stream [] [] due (subst (UnreadOf (AreOther p.mark) half) (sym (append-nil stream)) u) aligned in
     record {
       due = due;
       aligned = aligned;
@@ -100,7 +108,7 @@ aligned_for width below p records sheet half stream due kept ran is aligned (inl
       ran = ran;
       sheet_is = is;
       fulfils = elim turn [
-        | inl (none, still) ↦ fulfils_none width p records kept ran due (subst (AllByRecursion (IsOther p.mark)) (sym none) tt)
+        | inl (none, still) ↦ fulfils_none width p records kept ran due (subst (AreOther p.mark) (sym none) tt)
         | inr (others, goes, all) ↦ fulfils_none width p records kept ran due (all_front (IsOther p.mark) (marks due) (marks others) all)
       ];
     }
@@ -111,7 +119,7 @@ pub served_for_on : (width : ℕ) → OfReadings → OfPaper → (p : InFlight) 
     (cs : List Command) → Read width sheet after half rest piece cs → ServedFor width p records sheet half (piece ++ stream)
     → ServedFor width p records after rest stream × (IsIn p.mark (marks cs) → StandsNext width p records after.items)
 served_for_on width below paper p records sheet after half rest piece stream cs r (inl u) =
-    elim (unread_on below (IsOther p.mark) (other_ids p.mark) half piece stream rest cs u r.reads) [
+    elim (unread_on below (AreOther p.mark) (other_tails p.mark) half piece stream rest cs u r.reads) [
       | inl (none, still) ↦ (inl still, λ is. absurd (subst (IsIn p.mark) none is))
       | inr (others, goes, all) ↦ (
         inr (record {
@@ -142,7 +150,7 @@ served_for_on width below paper p records sheet after half rest piece stream cs 
 -- One more mark is put, another one.
 pub served_for_mark : (width : ℕ) → OfReadings → OfPaper → (p : InFlight) (records : List (List Command)) (sheet : Sheet) (half stream id : List ℕ) → IsOther p.mark id
     → ServedFor width p records sheet half stream → ServedFor width p records sheet half (stream ++ row (kind.Mark id))
-served_for_mark width below paper p records sheet half stream id one (inl u) = inl (unread_add (IsOther p.mark) half stream (kind.Mark id) (inl (id, refl, one)) u)
+served_for_mark width below paper p records sheet half stream id one (inl u) = inl (unread_add (AreOther p.mark) (AreOther p.mark) half stream (kind.Mark id) (inl (id, refl, one.0)) (other_grows p.mark id one) u)
 served_for_mark width below paper p records sheet half stream id one (inr k) =
     let m = kind.Mark id in
     inr (record {
@@ -156,7 +164,7 @@ served_for_mark width below paper p records sheet half stream id one (inr k) =
 
 -- Commands with other marks alone are put where the printer reads what comes.
 pub keeps_more : (width : ℕ) → OfReadings → OfPaper → (p : InFlight) (records : List (List Command)) (sheet : Sheet) (half stream : List ℕ) (cs : List Command) → AreCommands cs
-    → AllByRecursion (IsOther p.mark) (marks cs) → KeepsOn width p records sheet half stream → KeepsOn width p records sheet half (stream ++ spell cs)
+    → AreOther p.mark (marks cs) → KeepsOn width p records sheet half stream → KeepsOn width p records sheet half (stream ++ spell cs)
 keeps_more width below paper p records sheet half stream cs are all k = record {
   due = k.due ++ cs;
   aligned = step_add below half [] stream k.due cs k.aligned are;
@@ -169,14 +177,14 @@ keeps_more width below paper p records sheet half stream cs are all k = record {
 -- ## The printer comes to a link
 
 pub late_given : (width : ℕ) (p : InFlight) (records : List (List Command)) (sheet : Sheet) (half : List ℕ) (others : List (List ℕ)) → IsRest half
-    → AllByRecursion (LateOf (IsOther p.mark)) others → GivenUpFor width p records sheet half others
+    → AllByRecursion (LateOf (AreOther p.mark)) others → GivenUpFor width p records sheet half others
 late_given width p records sheet half [] rest late = tt
 late_given width p records sheet half (bytes ∷ others) rest ((more, fresh), late) =
-    ((more, inl (fresh_unread (IsOther p.mark) half (bytes ++ more) rest fresh)), late)
+    ((more, inl (fresh_unread (AreOther p.mark) half (bytes ++ more) rest fresh)), late)
 
 pub fresh_newest : (width : ℕ) (p : InFlight) (records : List (List Command)) (sheet : Sheet) (half : List ℕ) (others : List (List ℕ)) (stream : List ℕ) → IsRest half
-    → FreshOf (IsOther p.mark) stream → NewestFor width p records sheet half others stream
-fresh_newest width p records sheet half [] stream rest fresh = inl (fresh_unread (IsOther p.mark) half stream rest fresh)
+    → FreshOf (AreOther p.mark) stream → NewestFor width p records sheet half others stream
+fresh_newest width p records sheet half [] stream rest fresh = inl (fresh_unread (AreOther p.mark) half stream rest fresh)
 fresh_newest width p records sheet half (bytes ∷ others) stream rest fresh = fresh
 
 -- ## What the ends do
@@ -259,13 +267,13 @@ off_for width p records out later sheet half [] (Some bytes) xs ys w = record {
 }
 off_for width p records out later sheet half (first ∷ others) (Some bytes) xs ys w = record {
   answered = λ one. w.answered (in_back p.mark xs ys one);
-  given_up = (w.given_up.0, late_add (IsOther p.mark) others bytes w.given_up.1 (out, w.newest));
+  given_up = (w.given_up.0, late_add (LateOf (AreOther p.mark)) others bytes w.given_up.1 (out, w.newest));
   newest = tt;
 }
 
 -- The host opens a link, with other marks alone.
 pub opened_for : (width : ℕ) (p : InFlight) (records : List (List Command)) (out : List ℕ) (sheet : Sheet) (half bytes : List ℕ) (ended : List (List ℕ)) (live : Option (List ℕ))
-    (xs ys : List (List ℕ)) → FreshOf (IsOther p.mark) bytes → IsRest half → PromisedBy width p records out sheet half ended live (xs ++ ys)
+    (xs ys : List (List ℕ)) → FreshOf (AreOther p.mark) bytes → IsRest half → PromisedBy width p records out sheet half ended live (xs ++ ys)
     → PromisedBy width p records bytes sheet half ended (Some []) ys
 opened_for width p records out sheet half bytes ended live xs ys fresh is w = record {
   answered = λ also. w.answered (in_back p.mark xs ys also);
@@ -279,12 +287,12 @@ pub idle_for : (width : ℕ) (p : InFlight) (records : List (List Command)) (out
     → PromisedBy width p records out sheet half (ended ++ [] ∷ []) None pending
 idle_for width p records out sheet half [] live pending is w = record {
   answered = w.answered;
-  given_up = (([], inl (fresh_unread (IsOther p.mark) half [] is ([], tt, refl))), tt);
+  given_up = (([], inl (fresh_unread (AreOther p.mark) half [] is ([], tt, tt, refl))), tt);
   newest = tt;
 }
 idle_for width p records out sheet half (first ∷ others) live pending is w = record {
   answered = w.answered;
-  given_up = (w.given_up.0, late_add (IsOther p.mark) others [] w.given_up.1 ([], ([], tt, refl)));
+  given_up = (w.given_up.0, late_add (LateOf (AreOther p.mark)) others [] w.given_up.1 ([], ([], tt, tt, refl)));
   newest = tt;
 }
 
@@ -302,13 +310,13 @@ nudged_for width below paper p records out sheet half id [] (Some bytes) pending
 nudged_for width below paper p records out sheet half id (first ∷ others) (Some bytes) pending one w = record {
   answered = w.answered;
   given_up = w.given_up;
-  newest = subst (FreshOf (IsOther p.mark)) (append_assoc bytes out (row (kind.Mark id))) (fresh_add (IsOther p.mark) (bytes ++ out) (kind.Mark id) (inl (id, refl, one)) w.newest);
+  newest = subst (FreshOf (AreOther p.mark)) (append_assoc bytes out (row (kind.Mark id))) (fresh_add (AreOther p.mark) (AreOther p.mark) (bytes ++ out) (kind.Mark id) (inl (id, refl, one.0)) (other_grows p.mark id one) w.newest);
 }
 
 -- Commands with other marks alone are put out where the printer reads what comes.
 pub put_for : (width : ℕ) → OfReadings → OfPaper → (p : InFlight) (records : List (List Command)) (out : List ℕ) (sheet : Sheet) (half : List ℕ) (bytes : List ℕ)
     (pending : List (List ℕ)) (due cs : List Command) (kept : List Item) (ran : List Command) → SheetIs width sheet kept ran → Reads (half ++ (bytes ++ out)) due [] → AreCommands cs
-    → AllByRecursion (IsOther p.mark) (marks cs) → PromisedBy width p records out sheet half [] (Some bytes) pending
+    → AreOther p.mark (marks cs) → PromisedBy width p records out sheet half [] (Some bytes) pending
     → PromisedBy width p records (out ++ spell cs) sheet half [] (Some bytes) pending
 put_for width below paper p records out sheet half bytes pending due cs kept ran is aligned are all w = record {
   answered = w.answered;

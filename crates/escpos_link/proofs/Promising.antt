@@ -3,7 +3,8 @@ use Rattle.std.proofs.Common.{◌≡◌, ◌<◌, ◌≤◌, inl, inr, ℕ, List
 use Rattle.std.specs.List.{AllByRecursion}
 use Rattle.escpos_command.specs.declared.command.Command.{Command}
 use Rattle.escpos_command.specs.CommandTable.{AreCommands, spell}
-use Rattle.escpos_command.specs.Digits.{mark_count, mark_of}
+use Rattle.escpos_command.specs.Digits.{mark_count}
+use Rattle.escpos_host.specs.Counted.{id_of}
 use Rattle.escpos_command.specs.Marks.{marks}
 use Rattle.escpos_command.specs.Parameters.{is_mark_id}
 use Rattle.escpos_paper.specs.declared.item.Item.{Item}
@@ -12,109 +13,101 @@ use Rattle.escpos_paper.specs.Printed.{printed}
 use Rattle.escpos_host.specs.Machine.{InFlight, Phase, Down, Opening, Open, receipts_of}
 use Rattle.escpos_host.specs.Heard.{IsClosing}
 use Rattle.escpos_host.proofs.Recording.{is_closing}
-use Rattle.escpos_link.specs.Promised.{GivenUpFor, IsIn, IsOther, LiveFor, PromisedBy, StandsNext}
-use Rattle.escpos_link.specs.Ways.{Course, FreshOf, GivenUp, InOrder, IsKnown, IsOpener, Known, LateOf, Newest, Owed, Rising, UnreadOf, Way, closing_marks, flight_of}
+use Rattle.escpos_link.specs.Promised.{AreOther, GivenUpFor, IsIn, LiveFor, PromisedBy, StandsNext}
+use Rattle.escpos_link.specs.Ways.{AreApart, Course, GivenUp, LateOf, Later, Newest, Owed, Rising, Row, Way, closing_marks, flight_of}
 use Rattle.escpos_link.specs.Stands.{Stands}
 use Rattle.escpos_link.proofs.Aligning.{OfReadings, head_same, tail_same}
 use Rattle.escpos_link.proofs.Claiming.{OfPaper, course_known, course_owed, course_run, owed_known, owed_rested, rested}
 use Rattle.escpos_link.proofs.Leaving.{items_are}
-use Rattle.escpos_link.proofs.Numbers.{OfNumbers, known_back, known_front, not_closing, rising_known}
+use Rattle.escpos_link.proofs.Links.{fresh_as, given_within, later_within, unread_as}
+use Rattle.escpos_link.proofs.Numbers.{OfNumbers, not_closing, row_back, row_front, row_within}
 use Rattle.escpos_link.proofs.Standing.{stands_front}
 use Rattle.escpos_link.proofs.Promises.{fulfils_none, in_back, in_join, lost_for, not_in, put_for}
 
 -- ## A promise is made
 
--- What is said of all ids holds of those on a link.
-ids_as : (K L : List ℕ → Type 0) → ((id : List ℕ) → K id → L id) → (ids : List (List ℕ)) → AllByRecursion K ids → AllByRecursion L ids
-ids_as K L so [] all = tt
-ids_as K L so (id ∷ ids) all = (so id all.0, ids_as K L so ids all.1)
+-- A row of marks that end below this number: it is another.
+row_other : OfNumbers → (from to n : ℕ) (p : InFlight) → to ≤ n → n < from + mark_count → p.mark ≡ id_of n → (ids : List (List ℕ)) → Row from to ids → AreOther p.mark ids
+row_other of from to n p less near mark [] row = tt
+row_other of from to n p less near mark (id ∷ ids) (m, least, is, row) =
+    let within = row_within (m + 1) to ids row in (
+      (
+        subst (λ v. IsTrue (is_mark_id v)) is (of.ids m),
+        λ same. let one = of.apart m n (omega (arith, within, less)) (omega (arith, near, least)) (is ∙ same ∙ mark) in omega (arith, one, within, less),
+      ),
+      row_other of (m + 1) to n p less (omega (arith, near, least)) mark ids row,
+    )
 
-one_as : (K L : List ℕ → Type 0) → ((id : List ℕ) → K id → L id) → (c : Command) → IsOpener K c → IsOpener L c
-one_as K L so c (inl (id, is, k)) = inl (id, is, so id k)
-one_as K L so c (inr is) = inr is
+made_later : OfNumbers → (from to n : ℕ) (p : InFlight) (others : List (List ℕ)) → to ≤ n → n < from + mark_count → p.mark ≡ id_of n → Later from to others
+    → AllByRecursion (LateOf (AreOther p.mark)) others
+made_later of from to n p [] less near mark later = tt
+made_later of from to n p (bytes ∷ others) less near mark (mid, (more, fresh), later) =
+    let within = later_within mid to others later in
+    let (openers, opening, known, is) = fresh in
+    let begun = row_within from mid (marks openers) known in (
+      (more, fresh_as (Row from mid) (AreOther p.mark) (row_other of from mid n p (omega (arith, within, less)) near mark) (bytes ++ more) fresh),
+      made_later of mid to n p others less (omega (arith, near, begun)) mark later,
+    )
 
-all_as : (K L : List ℕ → Type 0) → ((id : List ℕ) → K id → L id) → (openers : List Command) → AllByRecursion (IsOpener K) openers → AllByRecursion (IsOpener L) openers
-all_as K L so [] all = tt
-all_as K L so (c ∷ openers) all = (one_as K L so c all.0, all_as K L so openers all.1)
+made_given : (width : ℕ) → OfNumbers → (from to n : ℕ) (p : InFlight) (records : List (List Command)) (sheet : Sheet) (half : List ℕ) (ended : List (List ℕ)) (kept : List Item)
+    (ran : List Command) → SheetIs width sheet kept ran → to ≤ n → n < from + mark_count → p.mark ≡ id_of n → GivenUp from to half ended → GivenUpFor width p records sheet half ended
+made_given width of from to n p records sheet half [] kept ran is less near mark given = tt
+made_given width of from to n p records sheet half (bytes ∷ others) kept ran is less near mark (mid, (more, inl u), later) =
+    let within = later_within mid to others later in
+    let begun = row_within from mid (marks u.openers) u.known in (
+      (more, inl (unread_as (Row from mid) (AreOther p.mark) (row_other of from mid n p (omega (arith, within, less)) near mark) half (bytes ++ more) u)),
+      made_later of mid to n p others less (omega (arith, near, begun)) mark later,
+    )
+made_given width of from to n p records sheet half (bytes ∷ others) kept ran is less near mark (mid, (more, inr i), later) =
+    let within = later_within mid to others later in
+    let begun = row_within from mid (marks i.due) i.known in (
+      (
+        more,
+        inr (record {
+          due = i.due;
+          aligned = i.aligned;
+          kept = kept;
+          ran = ran;
+          sheet_is = is;
+          fulfils = fulfils_none width p records kept ran i.due (row_other of from mid n p (omega (arith, within, less)) near mark (marks i.due) i.known);
+        }),
+      ),
+      made_later of mid to n p others less (omega (arith, near, begun)) mark later,
+    )
 
-unread_as : (K L : List ℕ → Type 0) → ((id : List ℕ) → K id → L id) → (half stream : List ℕ) → UnreadOf K half stream → UnreadOf L half stream
-unread_as K L so half stream u = record {
-  older = u.older;
-  delivered = u.delivered;
-  openers = u.openers;
-  commands = u.commands;
-  pending = u.pending;
-  known = all_as K L so u.openers u.known;
-  spelled = u.spelled;
-  reads = u.reads;
-  no_mark = u.no_mark;
-}
+made_newest : (width : ℕ) → OfNumbers → (from to n : ℕ) (p : InFlight) (records : List (List Command)) (sheet : Sheet) (half : List ℕ) (ended : List (List ℕ)) (bytes out : List ℕ)
+    → to ≤ n → n < from + mark_count → p.mark ≡ id_of n → Newest from to half ended (bytes ++ out) → LiveFor width p records sheet half ended (Some bytes) out
+made_newest width of from to n p records sheet half [] bytes out less near mark u =
+    inl (unread_as (Row from to) (AreOther p.mark) (row_other of from to n p less near mark) half (bytes ++ out) u)
+made_newest width of from to n p records sheet half (first ∷ others) bytes out less near mark fresh =
+    fresh_as (Row from to) (AreOther p.mark) (row_other of from to n p less near mark) (bytes ++ out) fresh
 
-fresh_as : (K L : List ℕ → Type 0) → ((id : List ℕ) → K id → L id) → (stream : List ℕ) → FreshOf K stream → FreshOf L stream
-fresh_as K L so stream (openers, all, is) = (openers, all_as K L so openers all, is)
+-- A mark of the row isn't its own.
+not_known : OfNumbers → (from to n : ℕ) (p : InFlight) (pending : List (List ℕ)) → to ≤ n → n < from + mark_count → p.mark ≡ id_of n → Row from to pending → IsIn p.mark pending → ⊥
+not_known of from to n p pending less near mark known = not_in p.mark pending (row_other of from to n p less near mark pending known)
 
-late_as : (K L : List ℕ → Type 0) → ((id : List ℕ) → K id → L id) → (others : List (List ℕ)) → AllByRecursion (LateOf K) others → AllByRecursion (LateOf L) others
-late_as K L so [] all = tt
-late_as K L so (bytes ∷ others) ((more, fresh), all) = ((more, fresh_as K L so (bytes ++ more) fresh), late_as K L so others all)
-
--- A mark with a number below this one is another.
-known_other : OfNumbers → (b n : ℕ) (p : InFlight) → b ≤ n → n < mark_count → p.mark ≡ mark_of n → (id : List ℕ) → IsKnown b id → IsOther p.mark id
-known_other of b n p least few is id (m, less, small, mark) = (
-  subst (λ v. IsTrue (is_mark_id v)) mark (of.ids m small),
-  λ same. let one = of.one_number m n small few (mark ∙ same ∙ is) in omega (arith, less, least, one),
-)
-
-made_given : (width : ℕ) → OfNumbers → (b n : ℕ) (p : InFlight) (records : List (List Command)) (sheet : Sheet) (half : List ℕ) (ended : List (List ℕ)) (kept : List Item)
-    (ran : List Command) → SheetIs width sheet kept ran → b ≤ n → n < mark_count → p.mark ≡ mark_of n → GivenUp b half ended → GivenUpFor width p records sheet half ended
-made_given width of b n p records sheet half [] kept ran is least few mark given = tt
-made_given width of b n p records sheet half (bytes ∷ others) kept ran is least few mark ((more, inl u), late) = (
-  (more, inl (unread_as (IsKnown b) (IsOther p.mark) (known_other of b n p least few mark) half (bytes ++ more) u)),
-  late_as (IsKnown b) (IsOther p.mark) (known_other of b n p least few mark) others late,
-)
-made_given width of b n p records sheet half (bytes ∷ others) kept ran is least few mark ((more, inr i), late) = (
-  (
-    more,
-    inr (record {
-      due = i.due;
-      aligned = i.aligned;
-      kept = kept;
-      ran = ran;
-      sheet_is = is;
-      fulfils = fulfils_none width p records kept ran i.due (ids_as (IsKnown b) (IsOther p.mark) (known_other of b n p least few mark) (marks i.due) i.known);
-    }),
-  ),
-  late_as (IsKnown b) (IsOther p.mark) (known_other of b n p least few mark) others late,
-)
-
-made_newest : (width : ℕ) → OfNumbers → (b n : ℕ) (p : InFlight) (records : List (List Command)) (sheet : Sheet) (half : List ℕ) (ended : List (List ℕ)) (bytes out : List ℕ)
-    → b ≤ n → n < mark_count → p.mark ≡ mark_of n → Newest b half ended (bytes ++ out) → LiveFor width p records sheet half ended (Some bytes) out
-made_newest width of b n p records sheet half [] bytes out least few mark u =
-    inl (unread_as (IsKnown b) (IsOther p.mark) (known_other of b n p least few mark) half (bytes ++ out) u)
-made_newest width of b n p records sheet half (first ∷ others) bytes out least few mark fresh =
-    fresh_as (IsKnown b) (IsOther p.mark) (known_other of b n p least few mark) (bytes ++ out) fresh
-
--- A known mark isn't its own.
-not_known : OfNumbers → (b n : ℕ) (p : InFlight) (pending : List (List ℕ)) → b ≤ n → n < mark_count → p.mark ≡ mark_of n → Known b pending → IsIn p.mark pending → ⊥
-not_known of b n p pending least few mark known = not_in p.mark pending (ids_as (IsKnown b) (IsOther p.mark) (known_other of b n p least few mark) pending known)
-
-pub made_for : (width : ℕ) → OfNumbers → (phase : Phase) (out : List ℕ) (next n : ℕ) (p : InFlight) (records rs : List (List Command)) (sheet : Sheet) (half : List ℕ)
+pub made_for : (width : ℕ) → OfNumbers → (phase : Phase) (out : List ℕ) (next heard n : ℕ) (p : InFlight) (records rs : List (List Command)) (sheet : Sheet) (half : List ℕ)
     (ended : List (List ℕ)) (live : Option (List ℕ)) (pending : List (List ℕ)) (kept : List Item) (ran : List Command) → SheetIs width sheet kept ran → next ≤ n
-    → n < mark_count → p.mark ≡ mark_of n → Way width phase out next records sheet half ended live pending
+    → n < heard + mark_count → p.mark ≡ id_of n → Way width phase out next heard records sheet half ended live pending
     → PromisedBy width p rs out sheet half ended live pending
-made_for width of phase out next n p records rs sheet half ended None pending kept ran is least few mark (inl w) = record {
-  answered = λ one. absurd (not_known of next n p pending least few mark (owed_known width records (flight_of phase) next sheet.items pending w.owed) one);
+made_for width of phase out next heard n p records rs sheet half ended None pending kept ran is least near mark (inl w) = record {
+  answered = λ one. absurd (not_known of heard next n p pending least near mark (owed_known width heard records (flight_of phase) next sheet.items pending w.owed) one);
   given_up = subst (GivenUpFor width p rs sheet half) (sym w.only) tt;
   newest = tt;
 }
-made_for width of phase out next n p records rs sheet half ended None pending kept ran is least few mark (inr w) = record {
-  answered = λ one. absurd (not_known of next n p pending least few mark w.known one);
-  given_up = made_given width of next n p rs sheet half ended kept ran is least few mark w.given_up;
-  newest = tt;
-}
-made_for width of phase out next n p records rs sheet half [] (Some bytes) pending kept ran is least few mark (inl w) =
-    let known = course_known width records (flight_of phase) next w.kept w.ran pending w.due w.course in
+made_for width of phase out next heard n p records rs sheet half ended None pending kept ran is least near mark (inr w) =
+    let reach = row_within heard w.reach pending w.known in
+    let end = given_within w.reach w.end half ended w.given_up in
+    let within = w.within in
     record {
-      answered = λ one. absurd (not_known of next n p pending least few mark (known_front next pending (marks w.due) known) one);
+      answered = λ one. absurd (not_known of heard w.reach n p pending (omega (arith, end, within, least)) near mark w.known one);
+      given_up = made_given width of w.reach w.end n p rs sheet half ended kept ran is (omega (arith, within, least)) (omega (arith, near, reach)) mark w.given_up;
+      newest = tt;
+    }
+made_for width of phase out next heard n p records rs sheet half [] (Some bytes) pending kept ran is least near mark (inl w) =
+    let known = course_known width heard records (flight_of phase) next w.kept w.ran pending w.due w.course in
+    record {
+      answered = λ one. absurd (not_known of heard next n p pending least near mark (row_front heard next pending (marks w.due) known) one);
       given_up = tt;
       newest = inr (record {
         due = w.due;
@@ -122,38 +115,40 @@ made_for width of phase out next n p records rs sheet half [] (Some bytes) pendi
         kept = w.kept;
         ran = w.ran;
         sheet_is = w.sheet_is;
-        fulfils = fulfils_none width p rs w.kept w.ran w.due
-            (ids_as (IsKnown next) (IsOther p.mark) (known_other of next n p least few mark) (marks w.due) (known_back next pending (marks w.due) known));
+        fulfils = fulfils_none width p rs w.kept w.ran w.due (row_other of heard next n p least near mark (marks w.due) (row_back heard next pending (marks w.due) known));
       });
     }
-made_for width of phase out next n p records rs sheet half (first ∷ others) (Some bytes) pending kept ran is least few mark (inl w) = absurd (cc w.only)
-made_for width of phase out next n p records rs sheet half ended (Some bytes) pending kept ran is least few mark (inr w) =
+made_for width of phase out next heard n p records rs sheet half (first ∷ others) (Some bytes) pending kept ran is least near mark (inl w) = absurd (cc w.only)
+made_for width of phase out next heard n p records rs sheet half ended (Some bytes) pending kept ran is least near mark (inr w) =
+    let reach = row_within heard w.reach pending w.known in
+    let end = given_within w.reach w.first half ended w.given_up in
     let within = w.within in
     record {
-      answered = λ one. absurd (not_known of w.first n p pending (omega (arith, within, least)) few mark w.known one);
-      given_up = made_given width of w.first n p rs sheet half ended kept ran is (omega (arith, within, least)) few mark w.given_up;
-      newest = made_newest width of next n p rs sheet half ended bytes out least few mark w.newest;
+      answered = λ one. absurd (not_known of heard w.reach n p pending (omega (arith, end, within, least)) near mark w.known one);
+      given_up = made_given width of w.reach w.first n p rs sheet half ended kept ran is (omega (arith, within, least)) (omega (arith, near, reach)) mark w.given_up;
+      newest = made_newest width of w.first next n p rs sheet half ended bytes out least (omega (arith, near, reach, end)) mark w.newest;
     }
 
 -- ## Receipts in flight
 
 -- Its mark is one that is answered only once all before it are.
-in_known : (base : ℕ) (id : List ℕ) (old : List (List ℕ)) → Known base old → IsIn id old → IsKnown base id
-in_known base id [] known is = absurd is
-in_known base id (x ∷ old) known (inl same) = subst (IsKnown base) same known.0
-in_known base id (x ∷ old) known (inr later) = in_known base id old known.1 later
+in_row : (from to : ℕ) (id : List ℕ) (old : List (List ℕ)) → Row from to old → IsIn id old → (n : ℕ) × (from ≤ n) × (n < to) × (id_of n ≡ id)
+in_row from to id [] row is = absurd is
+in_row from to id (x ∷ old) (n, least, mark, row) (inl same) = let within = row_within (n + 1) to old row in (n, least, omega (arith, within), mark ∙ same)
+in_row from to id (x ∷ old) (n, least, mark, row) (inr later) = let r = in_row (n + 1) to id old row later in (r.0, omega (arith, least, r.1), r.2, r.3)
 
-done_first : OfNumbers → (base next : ℕ) (done todo before : List InFlight) (p : InFlight) (others : List InFlight) → done ++ todo ≡ before ++ p ∷ others
+done_first : OfNumbers → (base next : ℕ) (done todo before : List InFlight) (p : InFlight) (others : List InFlight) → AreApart base next → done ++ todo ≡ before ++ p ∷ others
     → Rising base (done ++ todo) next → IsIn p.mark (closing_marks done) → (more : List InFlight) × (done ≡ before ++ p ∷ more)
-done_first of base next [] todo before p others is rising in_done = absurd in_done
-done_first of base next (d ∷ done) todo [] p others is rising in_done = (done, ap (λ v. v ∷ done) (head_same d p (done ++ todo) others is))
-done_first of base next (d ∷ done) todo (b ∷ before) p others is (n, from, few, mark, rising) (inl same) =
+done_first of base next [] todo before p others apart is rising in_done = absurd in_done
+done_first of base next (d ∷ done) todo [] p others apart is rising in_done = (done, ap (λ v. v ∷ done) (head_same d p (done ++ todo) others is))
+done_first of base next (d ∷ done) todo (b ∷ before) p others apart is (from, mark, rising) (inl same) =
     let rest = tail_same d b (done ++ todo) (before ++ p ∷ others) is in
-    absurd (not_closing of (n + 1) next (done ++ todo) p.mark (n, omega arith, few, sym mark ∙ same) rising
-    (subst (λ v. IsClosing v p.mark) (sym rest) (is_closing p.mark before p others refl)))
-done_first of base next (d ∷ done) todo (b ∷ before) p others is (n, from, few, mark, rising) (inr later) =
+    absurd (not_closing of (d.number + 1) next d.number (done ++ todo) p.mark (omega arith) (omega (arith, apart, from)) (sym mark ∙ same) rising
+    (subst (λ v. IsClosing 0 v p.mark) (sym rest) (is_closing 0 p.mark before p others (omega arith) refl)))
+done_first of base next (d ∷ done) todo (b ∷ before) p others apart is (from, mark, rising) (inr later) =
     let rest = tail_same d b (done ++ todo) (before ++ p ∷ others) is in
-    let r = done_first of (n + 1) next done todo before p others rest rising later in
+    let far : AreApart (d.number + 1) next = omega (arith, apart, from) in
+    let r = done_first of (d.number + 1) next done todo before p others far rest rising later in
     (r.0, ap (λ v. v ∷ done) (head_same d b (done ++ todo) (before ++ p ∷ others) is) ∙ ap (λ v. b ∷ v) r.1)
 
 pub receipts_join : (a b : List InFlight) → receipts_of (a ++ b) ≡ receipts_of a ++ receipts_of b
@@ -167,40 +162,44 @@ done_upto records before p more =
     ap (λ v. records ++ v) (receipts_join before (p ∷ more)) ∙ sym (append_assoc records (receipts_of before) (p.receipt ∷ receipts_of more))
     ∙ sym (append_assoc (records ++ receipts_of before) (p.receipt ∷ []) (receipts_of more))
 
-owed_promise : (width : ℕ) → OfNumbers → (flight before : List InFlight) (p : InFlight) (others : List InFlight) (records : List (List Command)) (next : ℕ) (items : List Item)
-    (pending : List (List ℕ)) → flight ≡ before ++ p ∷ others → Owed width records flight next items pending → IsIn p.mark pending
+owed_promise : (width heard : ℕ) → OfNumbers → (flight before : List InFlight) (p : InFlight) (others : List InFlight) (records : List (List Command)) (next : ℕ) (items : List Item)
+    (pending : List (List ℕ)) → AreApart heard next → flight ≡ before ++ p ∷ others → Owed width heard records flight next items pending → IsIn p.mark pending
     → StandsNext width p (records ++ receipts_of before) items
-owed_promise width of flight before p others records next items pending split w is =
+owed_promise width heard of flight before p others records next items pending apart split w is =
     let all : w.done ++ w.todo ≡ before ++ p ∷ others = sym w.flight_is ∙ split in
+    let begun = row_within heard w.order.base w.order.old w.order.known in
+    let far : AreApart w.order.base next = omega (arith, apart, begun) in
     elim (in_join p.mark w.order.old (closing_marks w.done) (subst (IsIn p.mark) w.order.queue_is is)) [
       | inl old ↦
-          absurd (not_closing of w.order.base next (w.done ++ w.todo) p.mark (in_known w.order.base p.mark w.order.old w.order.known old) w.order.rising
-          (subst (λ v. IsClosing v p.mark) (sym all) (is_closing p.mark before p others refl)))
+          let k = in_row heard w.order.base p.mark w.order.old w.order.known old in
+          let least = k.1 in
+          absurd (not_closing of w.order.base next k.0 (w.done ++ w.todo) p.mark k.2 (omega (arith, apart, least)) k.3 w.order.rising
+          (subst (λ v. IsClosing 0 v p.mark) (sym all) (is_closing 0 p.mark before p others (omega arith) refl)))
       | inr done ↦
-          let d = done_first of w.order.base next w.done w.todo before p others all w.order.rising done in
+          let d = done_first of w.order.base next w.done w.todo before p others far all w.order.rising done in
           stands_front width ((records ++ receipts_of before) ++ p.receipt ∷ []) (receipts_of d.0) items
           (subst (λ v. Stands width v items) (ap (λ v. records ++ receipts_of v) d.1 ∙ done_upto records before p d.0) w.stands)
     ]
 
-pub in_flight_for : (width : ℕ) → OfNumbers → OfPaper → (phase : Phase) (out : List ℕ) (next : ℕ) (flight before : List InFlight) (p : InFlight) (others : List InFlight)
+pub in_flight_for : (width : ℕ) → OfNumbers → OfPaper → (phase : Phase) (out : List ℕ) (next heard : ℕ) (flight before : List InFlight) (p : InFlight) (others : List InFlight)
     (records : List (List Command)) (sheet : Sheet) (half : List ℕ) (ended : List (List ℕ)) (live : Option (List ℕ)) (pending : List (List ℕ)) → phase ≡ Open flight
-    → flight ≡ before ++ p ∷ others → Way width phase out next records sheet half ended live pending
+    → flight ≡ before ++ p ∷ others → Way width phase out next heard records sheet half ended live pending
     → PromisedBy width p (records ++ receipts_of before) out sheet half ended live pending
-in_flight_for width of paper phase out next flight before p others records sheet half ended None pending is split (inl w) = record {
-  answered = owed_promise width of flight before p others records next sheet.items pending split (subst (λ v. Owed width records v next sheet.items pending) (ap flight_of is) w.owed);
+in_flight_for width of paper phase out next heard flight before p others records sheet half ended None pending is split (inl w) = record {
+  answered = owed_promise width heard of flight before p others records next sheet.items pending w.apart split (subst (λ v. Owed width heard records v next sheet.items pending) (ap flight_of is) w.owed);
   given_up = subst (GivenUpFor width p (records ++ receipts_of before) sheet half) (sym w.only) tt;
   newest = tt;
 }
-in_flight_for width of paper phase out next flight before p others records sheet half ended None pending is split (inr w) =
+in_flight_for width of paper phase out next heard flight before p others records sheet half ended None pending is split (inr w) =
     absurd (let bad : Open flight ≡ Down = sym is ∙ w.down in cc)
-in_flight_for width of paper phase out next flight before p others records sheet half [] (Some bytes) pending is split (inl w) =
-    let course = subst (λ v. Course width records v next w.kept w.ran pending w.due) (ap flight_of is) w.course in
-    let now : Owed width records flight next sheet.items pending =
-    subst (λ v. Owed width records flight next v pending) (sym (items_are width sheet w.kept w.ran w.sheet_is))
-    (course_owed width paper records flight next w.kept w.ran pending [] w.due
-    (subst (λ v. Course width records flight next w.kept w.ran v w.due) (sym (append-nil pending)) course)) in
+in_flight_for width of paper phase out next heard flight before p others records sheet half [] (Some bytes) pending is split (inl w) =
+    let course = subst (λ v. Course width heard records v next w.kept w.ran pending w.due) (ap flight_of is) w.course in
+    let now : Owed width heard records flight next sheet.items pending =
+    subst (λ v. Owed width heard records flight next v pending) (sym (items_are width sheet w.kept w.ran w.sheet_is))
+    (course_owed width heard paper records flight next w.kept w.ran pending [] w.due
+    (subst (λ v. Course width heard records flight next w.kept w.ran v w.due) (sym (append-nil pending)) course)) in
     record {
-      answered = owed_promise width of flight before p others records next sheet.items pending split now;
+      answered = owed_promise width heard of flight before p others records next sheet.items pending w.apart split now;
       given_up = tt;
       newest = inr (record {
         due = w.due;
@@ -209,76 +208,79 @@ in_flight_for width of paper phase out next flight before p others records sheet
         ran = w.ran;
         sheet_is = w.sheet_is;
         fulfils = λ a b cut one.
-            let on = course_run width paper records flight next w.kept w.ran pending a b (subst (Course width records flight next w.kept w.ran pending) cut course) in
-            owed_promise width of flight before p others records next (w.kept ++ printed width (w.ran ++ a)) (pending ++ marks a) split
-            (course_owed width paper records flight next w.kept (w.ran ++ a) (pending ++ marks a) [] b
-            (subst (λ v. Course width records flight next w.kept (w.ran ++ a) v b) (sym (append-nil (pending ++ marks a))) on))
+            let on = course_run width heard paper records flight next w.kept w.ran pending a b (subst (Course width heard records flight next w.kept w.ran pending) cut course) in
+            owed_promise width heard of flight before p others records next (w.kept ++ printed width (w.ran ++ a)) (pending ++ marks a) w.apart split
+            (course_owed width heard paper records flight next w.kept (w.ran ++ a) (pending ++ marks a) [] b
+            (subst (λ v. Course width heard records flight next w.kept (w.ran ++ a) v b) (sym (append-nil (pending ++ marks a))) on))
             (in_back p.mark pending (marks a) one);
       });
     }
-in_flight_for width of paper phase out next flight before p others records sheet half (first ∷ more) (Some bytes) pending is split (inl w) = absurd (cc w.only)
-in_flight_for width of paper phase out next flight before p others records sheet half ended (Some bytes) pending is split (inr w) =
+in_flight_for width of paper phase out next heard flight before p others records sheet half (first ∷ more) (Some bytes) pending is split (inl w) = absurd (cc w.only)
+in_flight_for width of paper phase out next heard flight before p others records sheet half ended (Some bytes) pending is split (inr w) =
     absurd (let bad : Open flight ≡ Opening w.first = sym is ∙ w.opening in cc)
 
--- Their marks have numbers below the next one.
-in_order_known : (done todo : List InFlight) (next : ℕ) (queue : List (List ℕ)) → InOrder done todo next queue → Known next (closing_marks (done ++ todo))
-in_order_known done todo next queue o = rising_known o.base next (done ++ todo) o.rising
-
-pub flight_known : (width : ℕ) (phase : Phase) (out : List ℕ) (next : ℕ) (records : List (List Command)) (sheet : Sheet) (half : List ℕ) (ended : List (List ℕ))
-    (live : Option (List ℕ)) (pending : List (List ℕ)) (flight : List InFlight) → phase ≡ Open flight → Way width phase out next records sheet half ended live pending
-    → Known next (closing_marks flight)
-flight_known width phase out next records sheet half ended None pending flight is (inl w) =
-    subst (λ v. Known next (closing_marks v)) (sym w.owed.flight_is ∙ ap flight_of is) (in_order_known w.owed.done w.owed.todo next pending w.owed.order)
-flight_known width phase out next records sheet half ended None pending flight is (inr w) = absurd (let bad : Open flight ≡ Down = sym is ∙ w.down in cc)
-flight_known width phase out next records sheet half ended (Some bytes) pending flight is (inl w) =
-    subst (λ v. Known next (closing_marks v)) (sym w.course.flight_is ∙ ap flight_of is) (in_order_known w.course.done w.course.todo next (pending ++ marks w.course.rest) w.course.order)
-flight_known width phase out next records sheet half ended (Some bytes) pending flight is (inr w) = absurd (let bad : Open flight ≡ Opening w.first = sym is ∙ w.opening in cc)
+-- The numbers of their marks rise, and are below the next one.
+pub flight_rising : (width : ℕ) (phase : Phase) (out : List ℕ) (next heard : ℕ) (records : List (List Command)) (sheet : Sheet) (half : List ℕ) (ended : List (List ℕ))
+    (live : Option (List ℕ)) (pending : List (List ℕ)) (flight : List InFlight) → phase ≡ Open flight → Way width phase out next heard records sheet half ended live pending
+    → (base : ℕ) × Rising base flight next
+flight_rising width phase out next heard records sheet half ended None pending flight is (inl w) =
+    (w.owed.order.base, subst (λ v. Rising w.owed.order.base v next) (sym w.owed.flight_is ∙ ap flight_of is) w.owed.order.rising)
+flight_rising width phase out next heard records sheet half ended None pending flight is (inr w) = absurd (let bad : Open flight ≡ Down = sym is ∙ w.down in cc)
+flight_rising width phase out next heard records sheet half ended (Some bytes) pending flight is (inl w) =
+    (w.course.order.base, subst (λ v. Rising w.course.order.base v next) (sym w.course.flight_is ∙ ap flight_of is) w.course.order.rising)
+flight_rising width phase out next heard records sheet half ended (Some bytes) pending flight is (inr w) = absurd (let bad : Open flight ≡ Opening w.first = sym is ∙ w.opening in cc)
 
 -- ## Commands are put out on an open link
 
-pub put_open_for : (width : ℕ) → OfReadings → OfPaper → (phase : Phase) (out : List ℕ) (next : ℕ) (p : InFlight) (records rs : List (List Command)) (sheet : Sheet) (half : List ℕ)
+pub put_open_for : (width : ℕ) → OfReadings → OfPaper → (phase : Phase) (out : List ℕ) (next heard : ℕ) (p : InFlight) (records rs : List (List Command)) (sheet : Sheet) (half : List ℕ)
     (ended : List (List ℕ)) (live : Option (List ℕ)) (pending marked : List (List ℕ)) (flight : List InFlight) (cs : List Command) → phase ≡ Open flight → AreCommands cs
-    → AllByRecursion (IsOther p.mark) (marks cs) → Way width phase out next records sheet half ended live marked
+    → AreOther p.mark (marks cs) → Way width phase out next heard records sheet half ended live marked
     → PromisedBy width p rs out sheet half ended live pending → PromisedBy width p rs (out ++ spell cs) sheet half ended live pending
-put_open_for width below paper phase out next p records rs sheet half ended None pending marked flight cs is are all way w =
+put_open_for width below paper phase out next heard p records rs sheet half ended None pending marked flight cs is are all way w =
     lost_for width p rs out (out ++ spell cs) sheet half ended pending w
-put_open_for width below paper phase out next p records rs sheet half [] (Some bytes) pending marked flight cs is are all (inl s) w =
+put_open_for width below paper phase out next heard p records rs sheet half [] (Some bytes) pending marked flight cs is are all (inl s) w =
     put_for width below paper p rs out sheet half bytes pending s.due cs s.kept s.ran s.sheet_is s.aligned are all w
-put_open_for width below paper phase out next p records rs sheet half (first ∷ others) (Some bytes) pending marked flight cs is are all (inl s) w = absurd (cc s.only)
-put_open_for width below paper phase out next p records rs sheet half ended (Some bytes) pending marked flight cs is are all (inr s) w =
+put_open_for width below paper phase out next heard p records rs sheet half (first ∷ others) (Some bytes) pending marked flight cs is are all (inl s) w = absurd (cc s.only)
+put_open_for width below paper phase out next heard p records rs sheet half ended (Some bytes) pending marked flight cs is are all (inr s) w =
     absurd (let bad : Open flight ≡ Opening s.first = sym is ∙ s.opening in cc)
 
 -- ## Other records
 
 -- With no receipt in flight the records may be any that stand.
-pub recorded_way : (width : ℕ) (phase : Phase) (out : List ℕ) (next : ℕ) (records others : List (List Command)) (sheet : Sheet) (half : List ℕ) (ended : List (List ℕ))
-    (live : Option (List ℕ)) (pending : List (List ℕ)) → flight_of phase ≡ [] → Stands width others sheet.items → Way width phase out next records sheet half ended live pending
-    → Way width phase out next others sheet half ended live pending
-recorded_way width phase out next records others sheet half ended None pending none s (inl w) = inl (record {
+pub recorded_way : (width : ℕ) (phase : Phase) (out : List ℕ) (next heard : ℕ) (records others : List (List Command)) (sheet : Sheet) (half : List ℕ) (ended : List (List ℕ))
+    (live : Option (List ℕ)) (pending : List (List ℕ)) → flight_of phase ≡ [] → Stands width others sheet.items → Way width phase out next heard records sheet half ended live pending
+    → Way width phase out next heard others sheet half ended live pending
+recorded_way width phase out next heard records others sheet half ended None pending none s (inl w) = inl (record {
   up = w.up;
   only = w.only;
-  owed = subst (λ v. Owed width others v next sheet.items pending) (sym none)
-      (owed_rested width others next sheet.items pending s (owed_known width records (flight_of phase) next sheet.items pending w.owed));
+  apart = w.apart;
+  since = w.since;
+  owed = subst (λ v. Owed width heard others v next sheet.items pending) (sym none)
+      (owed_rested width heard others next sheet.items pending s (owed_known width heard records (flight_of phase) next sheet.items pending w.owed));
 })
-recorded_way width phase out next records others sheet half ended None pending none s (inr w) =
-    inr (record { down = w.down; stands = s; known = w.known; given_up = w.given_up })
-recorded_way width phase out next records others sheet half ended (Some bytes) pending none s (inl w) = inl (record {
+recorded_way width phase out next heard records others sheet half ended None pending none s (inr w) =
+    inr (record { down = w.down; stands = s; reach = w.reach; end = w.end; within = w.within; known = w.known; given_up = w.given_up })
+recorded_way width phase out next heard records others sheet half ended (Some bytes) pending none s (inl w) = inl (record {
   up = w.up;
   only = w.only;
+  apart = w.apart;
+  since = w.since;
   kept = w.kept;
   ran = w.ran;
   due = w.due;
   sheet_is = w.sheet_is;
   aligned = w.aligned;
-  course = subst (λ v. Course width others v next w.kept w.ran pending w.due) (sym none)
-      (rested width others next w.kept w.ran pending w.due (subst (Stands width others) (items_are width sheet w.kept w.ran w.sheet_is) s)
-      (course_known width records (flight_of phase) next w.kept w.ran pending w.due w.course));
+  course = subst (λ v. Course width heard others v next w.kept w.ran pending w.due) (sym none)
+      (rested width heard others next w.kept w.ran pending w.due (subst (Stands width others) (items_are width sheet w.kept w.ran w.sheet_is) s)
+      (course_known width heard records (flight_of phase) next w.kept w.ran pending w.due w.course));
 })
-recorded_way width phase out next records others sheet half ended (Some bytes) pending none s (inr w) = inr (record {
+recorded_way width phase out next heard records others sheet half ended (Some bytes) pending none s (inr w) = inr (record {
   first = w.first;
   opening = w.opening;
   within = w.within;
+  apart = w.apart;
   stands = s;
+  reach = w.reach;
   known = w.known;
   given_up = w.given_up;
   newest = w.newest;

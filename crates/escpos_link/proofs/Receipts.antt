@@ -1,5 +1,5 @@
 -- A receipt that goes over a line on which nothing is under way: the line once it is open, and once the receipt is recorded.
-use Rattle.std.proofs.Common.{◌≡◌, ◌≢◌, ◌⊎◌, ◌<◌, ◌≤◌, ◌+◌, inl, inr, ℕ, List, [], ◌∷◌, ◌++◌, true, false, length, refl, sym, ◌∙◌, ap, subst, append-nil, append_assoc, arith, Option, Some, None}
+use Rattle.std.proofs.Common.{◌≡◌, ◌≢◌, ◌⊎◌, ◌≤◌, ◌+◌, inl, inr, ℕ, List, [], ◌∷◌, ◌++◌, true, false, length, refl, sym, ◌∙◌, ap, subst, append-nil, append_assoc, arith, Option, Some, None}
 use Rattle.std.specs.List.{AllByRecursion}
 use Rattle.std.proofs.lemmas.Grind.{flat_map-append}
 use Rattle.escpos_command.specs.declared.answer.Answer.TheVariants as answer
@@ -7,7 +7,7 @@ use Rattle.escpos_command.specs.declared.command.Command.{Command}
 use Rattle.escpos_command.specs.declared.command.Command.TheVariants as kind
 use Rattle.escpos_command.specs.Answers.{AreWholeAnswers, HalfAnswer, Hears}
 use Rattle.escpos_command.specs.CommandTable.{AreCommands, IsCommand, row, spell}
-use Rattle.escpos_command.specs.Digits.{mark_count, mark_of}
+use Rattle.escpos_host.specs.Counted.{id_of}
 use Rattle.escpos_paper.specs.declared.item.Item.{Item}
 use Rattle.escpos_paper.specs.Page.{Sheet, SheetIs}
 use Rattle.escpos_paper.specs.Printed.{printed}
@@ -18,7 +18,7 @@ use Rattle.escpos_printer.specs.ReadyFor.{IsReadyFor}
 use Rattle.escpos_printer.specs.Replies.{is_offline, replies, reply}
 use Rattle.escpos_host.specs.declared.host.HostEvent.TheVariants as heard
 use Rattle.escpos_host.specs.Heard.{IsFirstWith, opened as opened_host, recorded}
-use Rattle.escpos_host.specs.Machine.{HostView, InFlight, IsSound, Down, Opening, Open, linked, next_mark, submitted}
+use Rattle.escpos_host.specs.Machine.{HostView, InFlight, IsSound, Down, Opening, Open, HasMark, closed_by, linked, next_mark, submitted}
 use Rattle.escpos_receipt.specs.Whole.{Whole, is_forbidden}
 use Rattle.escpos_host.proofs.Recording.{one_has}
 use Rattle.escpos_link.specs.declared.event.Event.TheVariants as event
@@ -72,50 +72,54 @@ pub record IsReady (l : LineView) : Type 0 where
   pub online : is_offline l.printer.condition ≡ false
 
 -- A mark that the host has put out alone.
-mark_ready : Laws → (p : PrinterView) (n : ℕ) → n < mark_count → p.half ≡ [] → p.waiting ≡ [] → is_offline p.condition ≡ false
-    → IsReadyFor p (kind.Mark (mark_of n) ∷ [])
-mark_ready laws p n few half none online = record {
+mark_ready : Laws → (p : PrinterView) (n : ℕ) → p.half ≡ [] → p.waiting ≡ [] → is_offline p.condition ≡ false
+    → IsReadyFor p (kind.Mark (id_of n) ∷ [])
+mark_ready laws p n half none online = record {
   none = half;
-  commands = (laws.ids n few, tt);
-  passes = online_passes p.condition (kind.Mark (mark_of n) ∷ []) online;
-  room = subst (λ waiting. length (others (waiting ++ answer.Mark (mark_of n) ∷ [])) ≤ most_waiting) (sym none) (omega arith);
+  commands = (laws.ids n, tt);
+  passes = online_passes p.condition (kind.Mark (id_of n) ∷ []) online;
+  room = subst (λ waiting. length (others (waiting ++ answer.Mark (id_of n) ∷ [])) ≤ most_waiting) (sym none) (omega arith);
 }
 
-opening_loaded : Laws → (h : HostView) (p : PrinterView) → h.next < mark_count → p.half ≡ [] → p.waiting ≡ [] → is_offline p.condition ≡ false
-    → Loaded (plain_line (linked h) p [] []) (kind.Mark (mark_of h.next) ∷ []) (mark_of h.next)
-opening_loaded laws h p few half none online = record {
+opening_loaded : Laws → (h : HostView) (p : PrinterView) → p.half ≡ [] → p.waiting ≡ [] → is_offline p.condition ≡ false
+    → Loaded (plain_line (linked h) p [] []) (kind.Mark (id_of h.next) ∷ []) (id_of h.next)
+opening_loaded laws h p half none online = record {
   line = refl;
   up = λ e. let bad : Opening h.next ≡ Down = e in absurd cc;
   half = refl;
   out = sym (append-nil (row (next_mark h)));
   few = omega arith;
-  ready = mark_ready laws p h.next few half none online;
+  ready = mark_ready laws p h.next half none online;
   none = none;
   reply = refl;
-  known = laws.ids h.next few;
+  known = laws.ids h.next;
   short = omega arith;
 }
 
 not_open : (first : ℕ) (flight : List InFlight) → Opening first ≡ Open flight → ⊥
 not_open first flight e = cc e
 
-opening_expects : (h : HostView) → h.next < mark_count → Expects (emptied (linked h)) (mark_of h.next) (opened_host (emptied (linked h)))
-opening_expects h few heard.None after (ignores, same) = absurd ignores
-opening_expects h few heard.Opened after (first, id, phase, is, opening, same) = (λ ends. ends, same)
-opening_expects h few (heard.Recorded n) after (id, is, r) = absurd (elim r.way [
+opening_expects : (h : HostView) → Expects (emptied (linked h)) (id_of h.next) (opened_host (emptied (linked h)) h.next)
+opening_expects h heard.None after (ignores, same) = absurd ignores
+opening_expects h heard.Opened after (first, n, id, phase, is, number, same) =
+    let begun : h.next ≡ first = cc phase in
+    let least = number.0 in
+    let below = number.1 in
+    let one : n ≡ h.next = omega (arith, begun, least, below) in (λ ends. ends, same ∙ ap (λ k. opened_host (emptied (linked h)) k) one)
+opening_expects h (heard.Recorded n) after (id, is, r) = absurd (elim r.way [
   | inl (flight, phase, f, same) ↦ not_open h.next flight phase
   | inr (first, phase, other, f, same) ↦
       let begun : h.next ≡ first = cc phase in
-      let one : mark_of h.next ≡ id = cc is in
-      other (h.next, omega (arith, begun), omega arith, few, one)
+      let one : id_of h.next ≡ id = cc is in
+      other (h.next, (omega (arith, begun), omega arith, omega (arith, begun), one))
 ])
-opening_expects h few (heard.Late id) after (first, phase, is, other, unleft, same) =
+opening_expects h (heard.Late id) after (first, phase, is, other, unleft, told) =
     let begun : h.next ≡ first = cc phase in
-    let one : mark_of h.next ≡ id = cc is in
-    absurd (other (h.next, omega (arith, begun), omega arith, few, one))
-opening_expects h few (heard.Status b) after (is, same) = let bad : answer.Mark (mark_of h.next) ≡ answer.Status b = is in absurd cc
-opening_expects h few (heard.Condition block) after (is, same) = let bad : answer.Mark (mark_of h.next) ≡ answer.Condition block = is in absurd cc
-opening_expects h few (heard.BadAnswer place) after turns = absurd turns
+    let one : id_of h.next ≡ id = cc is in
+    absurd (other (h.next, (omega (arith, begun), omega arith, omega (arith, begun), one)))
+opening_expects h (heard.Status b) after (is, same) = let bad : answer.Mark (id_of h.next) ≡ answer.Status b = is in absurd cc
+opening_expects h (heard.Condition block) after (is, same) = let bad : answer.Mark (id_of h.next) ≡ answer.Condition block = is in absurd cc
+opening_expects h (heard.BadAnswer place) after turns = absurd turns
 
 -- A printer from which the answers were taken, otherwise as it was but for what it took.
 taken_ready : (expected : HostView) (before after : PrinterView) (cs : List Command) → Took before (spell cs) cs after → after.half ≡ [] → is_offline before.condition ≡ false
@@ -135,22 +139,24 @@ pub record IsOpened (l m : LineView) : Type 0 where
   pub ready : IsReady m
   pub records : m.host.records ≡ l.host.records
   pub next : m.host.next ≡ l.host.next + 1
-  pub page : (width : ℕ) (kept : List Item) (cs : List Command) → SheetIs width l.printer.sheet kept cs → SheetIs width m.printer.sheet kept (cs ++ kind.Mark (mark_of l.host.next) ∷ [])
+  pub heard : m.host.heard ≡ l.host.next + 1
+  pub page : (width : ℕ) (kept : List Item) (cs : List Command) → SheetIs width l.printer.sheet kept cs → SheetIs width m.printer.sheet kept (cs ++ kind.Mark (id_of l.host.next) ∷ [])
 
 opened_by : Laws → (l m : LineView) (h : HostView) (p : PrinterView) → l.host ≡ h → l.printer ≡ p → is_offline p.condition ≡ false
-    → Exchanged (plain_line (linked h) p [] []) (kind.Mark (mark_of h.next) ∷ []) (opened_host (emptied (linked h))) m → IsOpened l m
+    → Exchanged (plain_line (linked h) p [] []) (kind.Mark (id_of h.next) ∷ []) (opened_host (emptied (linked h)) h.next) m → IsOpened l m
 opened_by laws l m h p host printer online x = record {
-  ready = subst IsReady (sym x.line) (taken_ready (opened_host (emptied (linked h))) p x.printer (kind.Mark (mark_of h.next) ∷ []) x.took x.half online refl refl refl);
+  ready = subst IsReady (sym x.line) (taken_ready (opened_host (emptied (linked h)) h.next) p x.printer (kind.Mark (id_of h.next) ∷ []) x.took x.half online refl refl refl);
   records = ap (λ (v : LineView). v.host.records) x.line ∙ sym (ap (λ (v : HostView). v.records) host);
   next = ap (λ (v : LineView). v.host.next) x.line ∙ sym (ap (λ (v : HostView). v.next + 1) host);
+  heard = ap (λ (v : LineView). v.host.heard) x.line ∙ sym (ap (λ (v : HostView). v.next + 1) host);
   page = λ width kept cs is.
-      subst (λ (v : LineView). SheetIs width v.printer.sheet kept (cs ++ kind.Mark (mark_of l.host.next) ∷ [])) (sym x.line)
-      (subst (λ n. SheetIs width x.printer.sheet kept (cs ++ kind.Mark (mark_of n) ∷ [])) (sym (ap (λ (v : HostView). v.next) host))
+      subst (λ (v : LineView). SheetIs width v.printer.sheet kept (cs ++ kind.Mark (id_of l.host.next) ∷ [])) (sym x.line)
+      (subst (λ n. SheetIs width x.printer.sheet kept (cs ++ kind.Mark (id_of n) ∷ [])) (sym (ap (λ (v : HostView). v.next) host))
       (x.took.ran.page width kept cs (subst (λ (v : PrinterView). SheetIs width v.sheet kept cs) printer is)));
 }
 
-pub opening_done : Laws → (l m : LineView) → Undisturbed l → l.host.phase ≡ Down → l.host.next < mark_count → Happened l (event.LinkUp ∷ exchange) m → IsOpened l m
-opening_done laws l m u is_down few (n, l1, ((done, also_down, mark, same), turn), rest) =
+pub opening_done : Laws → (l m : LineView) → Undisturbed l → l.host.phase ≡ Down → Happened l (event.LinkUp ∷ exchange) m → IsOpened l m
+opening_done laws l m u is_down (n, l1, ((done, also_down, mark, same), turn), rest) =
     let h = l.host in
     let p = l.printer in
     let plain : l1 ≡ plain_line (linked h) p [] [] =
@@ -158,8 +164,8 @@ opening_done laws l m u is_down few (n, l1, ((done, also_down, mark, same), turn
     ∙ ap (λ bytes. plain_line (linked h) p [] bytes) u.silent.quiet in
     let happened = subst (λ v. Happened v exchange m) plain rest in
     opened_by laws l m h p refl refl u.silent.online
-    (exchanged laws (plain_line (linked h) p [] []) m (kind.Mark (mark_of h.next) ∷ []) (mark_of h.next) (opened_host (emptied (linked h)))
-    (opening_loaded laws h p few u.silent.no_half u.silent.no_answer u.silent.online) (opening_expects h few) happened)
+    (exchanged laws (plain_line (linked h) p [] []) m (kind.Mark (id_of h.next) ∷ []) (id_of h.next) (opened_host (emptied (linked h)) h.next)
+    (opening_loaded laws h p u.silent.no_half u.silent.no_answer u.silent.online) (opening_expects h) happened)
 
 -- ## The receipt
 
@@ -175,57 +181,57 @@ sent_replies : (condition : Condition) (receipt : List Command) (id : List ℕ) 
 sent_replies condition receipt id whole =
     flat_map-append (reply condition) receipt (kind.Mark id ∷ []) ∙ ap (λ v. v ++ answer.Mark id ∷ []) (receipt_unanswered condition receipt whole)
 
-sent_ready : Laws → (p : PrinterView) (receipt : List Command) (n : ℕ) → n < mark_count → Whole receipt → AreCommands receipt → p.half ≡ [] → p.waiting ≡ []
-    → is_offline p.condition ≡ false → IsReadyFor p (sent_with receipt (mark_of n))
-sent_ready laws p receipt n few whole known half none online = record {
+sent_ready : Laws → (p : PrinterView) (receipt : List Command) (n : ℕ) → Whole receipt → AreCommands receipt → p.half ≡ [] → p.waiting ≡ []
+    → is_offline p.condition ≡ false → IsReadyFor p (sent_with receipt (id_of n))
+sent_ready laws p receipt n whole known half none online = record {
   none = half;
-  commands = (refl, all_joined IsCommand receipt (kind.Mark (mark_of n) ∷ []) known (laws.ids n few, tt));
-  passes = online_passes p.condition (sent_with receipt (mark_of n)) online;
-  room = subst (λ waiting. length (others (waiting ++ replies p.condition (sent_with receipt (mark_of n)))) ≤ most_waiting) (sym none)
-      (subst (λ answers. length (others answers) ≤ most_waiting) (sym (sent_replies p.condition receipt (mark_of n) whole)) (omega arith));
+  commands = (refl, all_joined IsCommand receipt (kind.Mark (id_of n) ∷ []) known (laws.ids n, tt));
+  passes = online_passes p.condition (sent_with receipt (id_of n)) online;
+  room = subst (λ waiting. length (others (waiting ++ replies p.condition (sent_with receipt (id_of n)))) ≤ most_waiting) (sym none)
+      (subst (λ answers. length (others answers) ≤ most_waiting) (sym (sent_replies p.condition receipt (id_of n) whole)) (omega arith));
 }
 
-sent_loaded : Laws → (h : HostView) (p : PrinterView) (receipt : List Command) → h.next < mark_count → Whole receipt → AreCommands receipt → h.out ≡ [] → h.half ≡ []
+sent_loaded : Laws → (h : HostView) (p : PrinterView) (receipt : List Command) → Whole receipt → AreCommands receipt → h.out ≡ [] → h.half ≡ []
     → length (submitted h [] receipt).out ≤ all_bytes → p.half ≡ [] → p.waiting ≡ [] → is_offline p.condition ≡ false
-    → Loaded (plain_line (submitted h [] receipt) p [] []) (sent_with receipt (mark_of h.next)) (mark_of h.next)
-sent_loaded laws h p receipt few whole known out half short no_half none online =
-    let all : (submitted h [] receipt).out ≡ spell (sent_with receipt (mark_of h.next)) = ap (λ v. v ++ spell (sent_with receipt (mark_of h.next))) out in
+    → Loaded (plain_line (submitted h [] receipt) p [] []) (sent_with receipt (id_of h.next)) (id_of h.next)
+sent_loaded laws h p receipt whole known out half short no_half none online =
+    let all : (submitted h [] receipt).out ≡ spell (sent_with receipt (id_of h.next)) = ap (λ v. v ++ spell (sent_with receipt (id_of h.next))) out in
     record {
       line = refl;
-      up = λ e. let bad : Open (record { receipt = receipt; mark = mark_of h.next } ∷ []) ≡ Down = e in absurd cc;
+      up = λ e. let bad : Open (closed_by receipt h.next ∷ []) ≡ Down = e in absurd cc;
       half = half;
       out = all;
       few = omega (arith, short, ap length all);
-      ready = sent_ready laws p receipt h.next few whole known no_half none online;
+      ready = sent_ready laws p receipt h.next whole known no_half none online;
       none = none;
-      reply = sent_replies p.condition receipt (mark_of h.next) whole;
-      known = laws.ids h.next few;
+      reply = sent_replies p.condition receipt (id_of h.next) whole;
+      known = laws.ids h.next;
       short = omega arith;
     }
 
 abbrev in_flight : HostView → List Command → InFlight
-in_flight h receipt = record { receipt = receipt; mark = mark_of h.next }
+in_flight h receipt = closed_by receipt h.next
 
 only_recorded : (h : HostView) (receipt : List Command) (after : HostView) (id : List ℕ) (flight before : List InFlight) (last : InFlight) (others : List InFlight)
-    → Open (in_flight h receipt ∷ []) ≡ Open flight → IsFirstWith id flight before last others → after ≡ recorded (emptied (submitted h [] receipt)) (before ++ last ∷ []) others
-    → (⊥ → ⊥) × (after ≡ recorded (emptied (submitted h [] receipt)) (in_flight h receipt ∷ []) [])
+    → Open (in_flight h receipt ∷ []) ≡ Open flight → IsFirstWith 0 id flight before last others → after ≡ recorded (emptied (submitted h [] receipt)) before last others
+    → (⊥ → ⊥) × (after ≡ recorded (emptied (submitted h [] receipt)) [] (in_flight h receipt) [])
 only_recorded h receipt after id flight before last others phase f same =
     let now : HostView = emptied (submitted h [] receipt) in
     let flying : in_flight h receipt ∷ [] ≡ flight = cc phase in
     let one = one_has (in_flight h receipt) last before others (flying ∙ f.all_are) in
-    (λ ends. ends, same ∙ ap (λ v. recorded now (v ++ last ∷ []) others) one.0 ∙ ap (λ v. recorded now (v ∷ []) others) one.1 ∙ ap (recorded now (in_flight h receipt ∷ [])) one.2)
+    (λ ends. ends, same ∙ ap (λ v. recorded now v last others) one.0 ∙ ap (λ v. recorded now [] v others) one.1 ∙ ap (recorded now [] (in_flight h receipt)) one.2)
 
 sent_expects : (h : HostView) (receipt : List Command)
-    → Expects (emptied (submitted h [] receipt)) (mark_of h.next) (recorded (emptied (submitted h [] receipt)) (in_flight h receipt ∷ []) [])
-sent_expects h receipt heard.None after (ignores, same) = absurd (ignores (inl refl))
-sent_expects h receipt heard.Opened after (first, id, phase, is, opening, same) = let bad : Open (in_flight h receipt ∷ []) ≡ Opening first = phase in absurd cc
+    → Expects (emptied (submitted h [] receipt)) (id_of h.next) (recorded (emptied (submitted h [] receipt)) [] (in_flight h receipt) [])
+sent_expects h receipt heard.None after (ignores, same) = absurd (ignores (inl (omega arith, refl)))
+sent_expects h receipt heard.Opened after (first, n, id, phase, is, opening, same) = let bad : Open (in_flight h receipt ∷ []) ≡ Opening first = phase in absurd cc
 sent_expects h receipt (heard.Recorded n) after (id, is, r) = elim r.way [
   | inl (flight, phase, f, same) ↦ only_recorded h receipt after id flight r.before r.last r.others phase f same
   | inr (first, phase, other, f, same) ↦ absurd (not_open first (in_flight h receipt ∷ []) (sym phase))
 ]
 sent_expects h receipt (heard.Late id) after (first, phase, is, other, unleft, same) = let bad : Open (in_flight h receipt ∷ []) ≡ Opening first = phase in absurd cc
-sent_expects h receipt (heard.Status b) after (is, same) = let bad : answer.Mark (mark_of h.next) ≡ answer.Status b = is in absurd cc
-sent_expects h receipt (heard.Condition block) after (is, same) = let bad : answer.Mark (mark_of h.next) ≡ answer.Condition block = is in absurd cc
+sent_expects h receipt (heard.Status b) after (is, same) = let bad : answer.Mark (id_of h.next) ≡ answer.Status b = is in absurd cc
+sent_expects h receipt (heard.Condition block) after (is, same) = let bad : answer.Mark (id_of h.next) ≡ answer.Condition block = is in absurd cc
 sent_expects h receipt (heard.BadAnswer place) after turns = absurd turns
 
 -- A receipt that was recorded: the line is ready, and it was run between an Init and a mark.
@@ -233,7 +239,8 @@ pub record IsSentOn (m after : LineView) (receipt : List Command) : Type 0 where
   pub ready : IsReady after
   pub records : after.host.records ≡ m.host.records ++ receipt ∷ []
   pub next : after.host.next ≡ m.host.next + 1
-  pub page : (width : ℕ) (kept : List Item) (cs : List Command) → SheetIs width m.printer.sheet kept cs → SheetIs width after.printer.sheet kept (cs ++ sent_with receipt (mark_of m.host.next))
+  pub heard : after.host.heard ≡ m.host.next + 1
+  pub page : (width : ℕ) (kept : List Item) (cs : List Command) → SheetIs width m.printer.sheet kept cs → SheetIs width after.printer.sheet kept (cs ++ sent_with receipt (id_of m.host.next))
 
 pub sending_done : Laws → (m after : LineView) (receipt : List Command) → IsReady m → Whole receipt → AreCommands receipt
     → length (submitted m.host [] receipt).out ≤ all_bytes → Happened m (event.Submit receipt ∷ exchange) after → IsSentOn m after receipt
@@ -244,14 +251,15 @@ sending_done laws m after receipt ready whole known short (n, m1, ((flight, done
     let plain : m1 ≡ plain_line (submitted h [] receipt) p [] [] =
     same ∙ ap (λ f. with_host m (submitted h f receipt)) none ∙ ap (λ v. with_host v (submitted h [] receipt)) ready.line in
     let happened = subst (λ v. Happened v exchange after) plain rest in
-    let expected = recorded (emptied (submitted h [] receipt)) (in_flight h receipt ∷ []) [] in
-    let x = exchanged laws (plain_line (submitted h [] receipt) p [] []) after (sent_with receipt (mark_of h.next)) (mark_of h.next) expected
-    (sent_loaded laws h p receipt mark whole known ready.out ready.half short ready.no_half ready.none ready.online) (sent_expects h receipt) happened in
+    let expected = recorded (emptied (submitted h [] receipt)) [] (in_flight h receipt) [] in
+    let x = exchanged laws (plain_line (submitted h [] receipt) p [] []) after (sent_with receipt (id_of h.next)) (id_of h.next) expected
+    (sent_loaded laws h p receipt whole known ready.out ready.half short ready.no_half ready.none ready.online) (sent_expects h receipt) happened in
     record {
-      ready = subst IsReady (sym x.line) (taken_ready expected p x.printer (sent_with receipt (mark_of h.next)) x.took x.half ready.online refl refl ready.half);
+      ready = subst IsReady (sym x.line) (taken_ready expected p x.printer (sent_with receipt (id_of h.next)) x.took x.half ready.online refl refl ready.half);
       records = ap (λ (v : LineView). v.host.records) x.line;
       next = ap (λ (v : LineView). v.host.next) x.line;
-      page = λ width kept cs is. subst (λ (v : LineView). SheetIs width v.printer.sheet kept (cs ++ sent_with receipt (mark_of h.next))) (sym x.line) (x.took.ran.page width kept cs is);
+      heard = ap (λ (v : LineView). v.host.heard) x.line;
+      page = λ width kept cs is. subst (λ (v : LineView). SheetIs width v.printer.sheet kept (cs ++ sent_with receipt (id_of h.next))) (sym x.line) (x.took.ran.page width kept cs is);
     }
 
 -- What is printed of it.
@@ -289,6 +297,7 @@ pub record IsBegun (l m : LineView) : Type 0 where
   pub ready : IsReady m
   pub records : m.host.records ≡ l.host.records
   pub next : m.host.next + 1 ≡ l.host.next + marks_for l.host.phase
+  pub has : HasMark m.host
   pub kept : List Item
   pub commands : List Command
   pub sheet : SheetIs l.printer.sheet.line_dots m.printer.sheet kept commands
@@ -298,16 +307,16 @@ pub begun : Laws → (l m : LineView) (kept : List Item) (cs : List Command) →
     → Happened l (opening l.host.phase) m → IsBegun l m
 begun laws l m kept cs u i sound is happened = elim u.at_rest.1 [
   | inl (is_down, no_live) ↦
-      let few : l.host.next < mark_count = omega (arith, u.marks, ap marks_for is_down) in
-      let o = opening_done laws l m u is_down few (subst (λ p. Happened l (opening p) m) is_down happened) in
+      let o = opening_done laws l m u is_down (subst (λ p. Happened l (opening p) m) is_down happened) in
       record {
         ready = o.ready;
         records = o.records;
         next = omega (arith, o.next, ap marks_for is_down);
+        has = omega (arith, o.next, o.heard, u.marks, ap marks_for is_down);
         kept = kept;
-        commands = cs ++ kind.Mark (mark_of l.host.next) ∷ [];
+        commands = cs ++ kind.Mark (id_of l.host.next) ∷ [];
         sheet = o.page l.printer.sheet.line_dots kept cs is;
-        items = ap (λ (s : Sheet). s.items) (o.page l.printer.sheet.line_dots kept cs is) ∙ ap (λ v. kept ++ v) (laws.marks l.printer.sheet.line_dots cs (mark_of l.host.next)) ∙ sym (ap (λ (s : Sheet). s.items) is);
+        items = ap (λ (s : Sheet). s.items) (o.page l.printer.sheet.line_dots kept cs is) ∙ ap (λ v. kept ++ v) (laws.marks l.printer.sheet.line_dots cs (id_of l.host.next)) ∙ sym (ap (λ (s : Sheet). s.items) is);
       }
   | inr (phase, live, out) ↦
       let same : m ≡ l = subst (λ p. Happened l (opening p) m) phase happened in
@@ -315,6 +324,7 @@ begun laws l m kept cs u i sound is happened = elim u.at_rest.1 [
         ready = subst IsReady (sym same) (at_rest_ready laws l u i sound phase live out);
         records = ap (λ (v : LineView). v.host.records) same;
         next = omega (arith, ap (λ (v : LineView). v.host.next) same, ap marks_for phase);
+        has = subst (λ (v : LineView). HasMark v.host) (sym same) (let one = ap marks_for phase in let marks = u.marks in omega (arith, one, marks));
         kept = kept;
         commands = cs;
         sheet = subst (λ (v : LineView). SheetIs l.printer.sheet.line_dots v.printer.sheet kept cs) (sym same) is;
@@ -329,11 +339,12 @@ went laws l m after receipt b whole known short first second =
     record {
       number_is = refl;
       recorded = s.records ∙ ap (λ v. v ++ receipt ∷ []) b.records;
-      printed_after = sent_items laws l.printer.sheet.line_dots m.printer.sheet after.printer.sheet receipt (mark_of m.host.next) b.kept b.commands b.sheet (s.page l.printer.sheet.line_dots b.kept b.commands b.sheet)
+      printed_after = sent_items laws l.printer.sheet.line_dots m.printer.sheet after.printer.sheet receipt (id_of m.host.next) b.kept b.commands b.sheet (s.page l.printer.sheet.line_dots b.kept b.commands b.sheet)
           ∙ ap (λ v. v ++ printed l.printer.sheet.line_dots receipt) b.items;
       ready = s.ready.phase;
       link = (ap (λ (v : LineView). v.ended) s.ready.line, ap (λ (v : LineView). v.live) s.ready.line);
       next = s.next ∙ b.next;
+      heard = s.heard ∙ sym s.next;
       out = s.ready.out;
       silent = record {
         online = s.ready.online;

@@ -2,10 +2,9 @@
 use Rattle.std.proofs.Common.{inl, inr, None, ◌≡◌, ◌+◌, ℕ, List, [], ◌∷◌, ◌++◌, length, take, true, false, Some, Result, Ok, Err, IfErr, refl, sym, ◌∙◌, ap, subst, append_assoc, append-nil, length-append, arith}
 use Rattle.std.specs.Prelude.{◌<◌, ◌≤◌, slice_get, is_err, IfOk, OnOk, OnErr}
 use Rattle.escpos_command.specs.declared.command.Command.{Command}
-use Rattle.escpos_command.specs.Digits.{mark_count}
 use Rattle.escpos_host.specs.declared.host.HostError.TheVariants as error
 use Rattle.escpos_host.specs.declared.host.HostState.TheVariants as state
-use Rattle.escpos_host.specs.Machine.{Phase, Down, Opening, Open, state_of}
+use Rattle.escpos_host.specs.Machine.{HasMark, Phase, Down, Opening, Open, state_of}
 use Rattle.escpos_link.specs.declared.event.Event.TheVariants as event
 use Rattle.escpos_link.specs.declared.event.Refusal.{Refusal}
 use Rattle.escpos_link.specs.declared.event.Refusal.TheVariants as refusal
@@ -77,7 +76,7 @@ pub no_answer_refused : (k : ℕ) (l : LineView) (refused : Refused) (after : Li
 no_answer_refused k l refused after is = is.reason
 
 -- A link is opened where there is none, and there is a mark: it is refused only out of memory.
-pub opens : (l : LineView) → l.host.phase ≡ Down → l.host.next < mark_count → (why : Refusal) → Refuses event.LinkUp l why → why ≡ refusal.Memory
+pub opens : (l : LineView) → l.host.phase ≡ Down → HasMark l.host → (why : Refusal) → Refuses event.LinkUp l why → why ≡ refusal.Memory
 opens l is_down few why (error.NotReady, is, refuses) = absurd refuses
 opens l is_down few why (error.MarksUsedUp, is, refuses) = absurd (omega (arith, few, refuses.1))
 opens l is_down few why (error.AlreadyUp, is, refuses) = absurd (refuses is_down)
@@ -85,7 +84,7 @@ opens l is_down few why (error.Memory, is, refuses) = is
 opens l is_down few why (error.InFlightFull, is, refuses) = absurd refuses
 
 -- The same for a receipt, where the host is ready.
-pub submits : (l : LineView) (receipt : List Command) → l.host.phase ≡ Open [] → l.host.next < mark_count → (why : Refusal) → Refuses (event.Submit receipt) l why → why ≡ refusal.Memory
+pub submits : (l : LineView) (receipt : List Command) → l.host.phase ≡ Open [] → HasMark l.host → (why : Refusal) → Refuses (event.Submit receipt) l why → why ≡ refusal.Memory
 submits l receipt ready few why (error.NotReady, is, refuses) = absurd (refuses [] ready)
 submits l receipt ready few why (error.MarksUsedUp, is, (flight, phase, some, used)) = absurd (omega (arith, few, used))
 submits l receipt ready few why (error.AlreadyUp, is, refuses) = absurd refuses
@@ -168,7 +167,7 @@ stopped_opening l after receipt s =
     let few : length s.done ≤ length (opening l.host.phase) = omega (arith, ap length s.split, length-append s.done (s.event ∷ s.others)) in
     record { stops = stops_before l after (opening l.host.phase) (event.Submit receipt ∷ exchange) s; receipt_back = inl (refl, few) }
 
-pub stopped_submitting : (l m after : LineView) (receipt : List Command) (refused : Refused) → Happened l (opening l.host.phase) m → m.host.phase ≡ Open [] → m.host.next < mark_count
+pub stopped_submitting : (l m after : LineView) (receipt : List Command) (refused : Refused) → Happened l (opening l.host.phase) m → m.host.phase ≡ Open [] → HasMark m.host
     → IsRefused (event.Submit receipt) m refused after → StoppedStraight l receipt refused.receipt after
 unfolding stops_at
 stopped_submitting l m after receipt refused opened ready few is =

@@ -44,7 +44,7 @@ pub record Loaded (l : LineView) (cs : List Command) (id : List ℕ) : Type 0 wh
 
 -- The host once all is taken out.
 abbrev pub emptied : HostView → HostView
-emptied h = record { phase = h.phase; out = []; half = h.half; next = h.next; records = h.records; left = h.left }
+emptied h = record { phase = h.phase; out = []; half = h.half; next = h.next; heard = h.heard; records = h.records; left = h.left }
 
 -- What the answer to the mark does to the host.
 abbrev pub Expects : HostView → List ℕ → HostView → Type 0
@@ -59,7 +59,7 @@ moved_all l m cs id count loaded is_count same =
     let front : take count l.host.out ≡ spell cs = ap (take count) loaded.out ∙ take_all count (spell cs) (omega (arith, whole)) in
     let gone : drop count l.host.out ≡ [] = drop_all count l.host.out (omega (arith, whole, ap length loaded.out)) in
     same ∙ ap (λ v. moved v count) loaded.line
-    ∙ ap (λ out. plain_line (record { phase = l.host.phase; out = out; half = l.host.half; next = l.host.next; records = l.host.records; left = l.host.left }) l.printer (take count l.host.out) []) gone
+    ∙ ap (λ out. plain_line (record { phase = l.host.phase; out = out; half = l.host.half; next = l.host.next; heard = l.host.heard; records = l.host.records; left = l.host.left }) l.printer (take count l.host.out) []) gone
     ∙ ap (λ bytes. plain_line (emptied l.host) l.printer bytes []) front
 
 -- The printer after it has taken the commands.

@@ -1,5 +1,5 @@
 -- The caller takes a receipt that is left: the others are promised without it.
-use Rattle.std.proofs.Common.{◌≡◌, inl, inr, ℕ, List, [], ◌∷◌, ◌++◌, drop, Option, Some, None, refl, sym, ◌∙◌, ap, subst, append-nil, append_assoc}
+use Rattle.std.proofs.Common.{◌≡◌, ◌<◌, ◌≤◌, inl, inr, ℕ, List, [], ◌∷◌, ◌++◌, drop, Option, Some, None, refl, sym, ◌∙◌, ap, subst, append-nil, append_assoc}
 use Rattle.escpos_command.specs.declared.command.Command.{Command}
 use Rattle.escpos_command.specs.Answers.{Hears}
 use Rattle.escpos_paper.specs.declared.item.Item.{Item}
@@ -9,7 +9,7 @@ use Rattle.escpos_host.specs.Machine.{HostView, InFlight, handed_out}
 use Rattle.escpos_link.specs.Promised.{GivenUpFor, LiveFor, NewestFor, PromisedBy, PromisedIn, ServedFor, StandsNext}
 use Rattle.escpos_link.specs.Stands.{Stands}
 use Rattle.escpos_link.specs.Trusted.{AllPromised, IsTrusted, StillTrusted}
-use Rattle.escpos_link.specs.Ways.{IsKnown, answered_marks}
+use Rattle.escpos_link.specs.Ways.{answered_marks}
 use Rattle.escpos_link.specs.Wire.{WireView, line_of}
 
 -- ## Fewer receipts stand
@@ -75,16 +75,20 @@ promised_as width p those these h after w half out so promise = record {
 
 -- All of them are promised without one that comes before them.
 all_without : (width : ℕ) (before : List (List Command)) (r : List Command) (others : List (List Command)) (left : List InFlight) (h after : HostView) (w : WireView) → after.half ≡ h.half
-    → after.out ≡ h.out → after.next ≡ h.next → AllPromised width (before ++ r ∷ others) left (line_of h w) → AllPromised width (before ++ others) left (line_of after w)
-all_without width before r others [] h after w half out next all = tt
-all_without width before r others (p ∷ left) h after w half out next (known, promise, rest) = (
-  subst (λ n. IsKnown n p.mark) (sym next) known,
-  promised_as width p (before ++ r ∷ others) (before ++ others) h after w half out
-      (λ items s.
-      subst (λ rs. Stands width rs items) (sym (append_assoc before others (p.receipt ∷ [])))
-      (stands_without width before r (others ++ p.receipt ∷ []) items (subst (λ rs. Stands width rs items) (append_assoc before (r ∷ others) (p.receipt ∷ [])) s))) promise,
+    → after.out ≡ h.out → after.next ≡ h.next → after.heard ≡ h.heard → AllPromised width (before ++ r ∷ others) left (line_of h w) → AllPromised width (before ++ others) left (line_of after w)
+all_without width before r others [] h after w half out next heard all = tt
+all_without width before r others (p ∷ left) h after w half out next heard (one, rest) = (
+  record {
+    put = subst (λ n. p.number < n) (sym next) one.put;
+    mark = one.mark;
+    promise = λ is_out. promised_as width p (before ++ r ∷ others) (before ++ others) h after w half out
+        (λ items s.
+        subst (λ rs. Stands width rs items) (sym (append_assoc before others (p.receipt ∷ [])))
+        (stands_without width before r (others ++ p.receipt ∷ []) items (subst (λ rs. Stands width rs items) (append_assoc before (r ∷ others) (p.receipt ∷ [])) s)))
+        (one.promise (subst (λ k. k ≤ p.number) heard is_out));
+  },
   subst (λ rs. AllPromised width rs left (line_of after w)) (sym (append_assoc before others (p.receipt ∷ [])))
-      (all_without width before r (others ++ p.receipt ∷ []) left h after w half out next
+      (all_without width before r (others ++ p.receipt ∷ []) left h after w half out next heard
       (subst (λ rs. AllPromised width rs left (line_of h w)) (append_assoc before (r ∷ others) (p.receipt ∷ [])) rest)),
 )
 
@@ -94,7 +98,7 @@ first_taken : (width : ℕ) (records : List (List Command)) (left : List InFligh
     → AllPromised width records (drop 1 left) (line_of (handed_out h) w)
 first_taken width records [] h w all = tt
 first_taken width records (p ∷ left) h w all =
-    subst (λ rs. AllPromised width rs left (line_of (handed_out h) w)) (append-nil records) (all_without width records p.receipt [] left h (handed_out h) w refl refl refl all.2)
+    subst (λ rs. AllPromised width rs left (line_of (handed_out h) w)) (append-nil records) (all_without width records p.receipt [] left h (handed_out h) w refl refl refl refl all.1)
 
 pub taken_trusted : (h : HostView) (w : WireView) → IsTrusted (line_of h w) → StillTrusted (line_of h w) (line_of (handed_out h) w)
 taken_trusted h w t =

@@ -24,17 +24,17 @@ pub record OfAnswers : Type 0 where
       → (others : List Answer) × (all ≡ some ++ others) × Hears (r ++ b) others []
 
 abbrev pub Holding : Type 1
-Holding = Phase → List ℕ → ℕ → List (List Command) → List InFlight → List Answer → Type 0
+Holding = Phase → List ℕ → ℕ → ℕ → List (List Command) → List InFlight → List Answer → Type 0
 
 -- What a host keeps from answer to answer.
 pub record Turned (P : Holding) (h after : HostView) (others : List Answer) (e : HostEvent) : Type 0 where
   pub on : EndsLink e → ⊥
   pub up : after.phase ≢ Down
   pub half : after.half ≡ h.half
-  pub holds : P after.phase after.out after.next after.records after.left others
+  pub holds : P after.phase after.out after.next after.heard after.records after.left others
 
 abbrev pub Turner : Holding → Type 0
-Turner P = (h after : HostView) (a : Answer) (others : List Answer) (e : HostEvent) → h.phase ≢ Down → P h.phase h.out h.next h.records h.left (a ∷ others)
+Turner P = (h after : HostView) (a : Answer) (others : List Answer) (e : HostEvent) → h.phase ≢ Down → P h.phase h.out h.next h.heard h.records h.left (a ∷ others)
     → Turns h a e after → Turned P h after others e
 
 -- A host that is up, its half answer and the bytes to come, which are answers, and for which it holds.
@@ -42,7 +42,7 @@ pub record Goes (P : Holding) (h : HostView) (bytes : List ℕ) : Type 0 where
   pub up : h.phase ≢ Down
   pub answers : List Answer
   pub hears : Hears (h.half ++ bytes) answers []
-  pub holds : P h.phase h.out h.next h.records h.left answers
+  pub holds : P h.phase h.out h.next h.heard h.records h.left answers
 
 -- ## Bytes of answers fit
 
@@ -103,7 +103,7 @@ around bytes at within =
     sym (take-append-drop (at + 1) bytes) ∙ ap (λ v. v ++ drop (at + 1) bytes) (take_more bytes at 0 within)
 
 passed_by : (P : Holding) → Turner P → (h : HostView) (ignored others : List Answer) → h.phase ≢ Down → AllByRecursion (Ignores h.phase h.next) ignored
-    → P h.phase h.out h.next h.records h.left (ignored ++ others) → P h.phase h.out h.next h.records h.left others
+    → P h.phase h.out h.next h.heard h.records h.left (ignored ++ others) → P h.phase h.out h.next h.heard h.records h.left others
 passed_by P turner h [] others up each holds = holds
 passed_by P turner h (a ∷ ignored) others up each holds =
     passed_by P turner h ignored others up each.1 (turner h h a (ignored ++ others) event.None up holds (each.0, refl)).holds
@@ -113,12 +113,12 @@ all_passed : (P : Holding) → OfAnswers → Turner P → (h after : HostView) (
     → after ≡ with_half h after.half → Goes P after more
 all_passed P below turner h after bytes more g passed same =
     let c = below.cut (h.half ++ bytes) more g.answers passed.ignored after.half (subst (λ v. Hears v g.answers []) (sym (append_assoc h.half bytes more)) g.hears) passed.hears in
-    let holds = passed_by P turner h passed.ignored c.0 g.up passed.each (subst (P h.phase h.out h.next h.records h.left) c.1 g.holds) in
+    let holds = passed_by P turner h passed.ignored c.0 g.up passed.each (subst (P h.phase h.out h.next h.heard h.records h.left) c.1 g.holds) in
     record {
       up = λ is_down. g.up (sym (ap (λ (v : HostView). v.phase) same) ∙ is_down);
       answers = c.0;
       hears = c.2;
-      holds = subst (λ (v : HostView). P v.phase v.out v.next v.records v.left c.0) (sym same) holds;
+      holds = subst (λ (v : HostView). P v.phase v.out v.next v.heard v.records v.left c.0) (sym same) holds;
     }
 
 no_growth : (h after : HostView) (byte : ℕ) (e : HostEvent) → e ≢ event.None → Grows h byte e after → ⊥
@@ -154,7 +154,7 @@ pub record After (P : Holding) (next : HostView) (bytes more : List ℕ) (count 
   pub goes : Goes P next (drop count bytes ++ more)
 
 by_answer : (P : Holding) → OfAnswers → Turner P → (h next : HostView) (bytes more half : List ℕ) (at : ℕ) (e : HostEvent) (a : Answer) (others : List Answer)
-    → h.phase ≢ Down → at < length bytes → P h.phase h.out h.next h.records h.left others → Hears (half ++ slice_index bytes at ∷ (drop (at + 1) bytes ++ more)) others []
+    → h.phase ≢ Down → at < length bytes → P h.phase h.out h.next h.heard h.records h.left others → Hears (half ++ slice_index bytes at ∷ (drop (at + 1) bytes ++ more)) others []
     → AnswerSpells a (half ++ slice_index bytes at ∷ []) → Turns (with_half (with_half h half) []) a e next → After P next bytes more (taken_at e at) e
 by_answer P below turner h next bytes more half at e a others up within holds hears spelled turns =
     let b = slice_index bytes at in
@@ -162,7 +162,7 @@ by_answer P below turner h next bytes more half at e a others up within holds he
     let one : Hears (half ++ b ∷ []) (a ∷ []) [] =
     record { in_range = (spelled.in_range, tt); whole = spelled.in_table ∙ sym (append-nil (spell_answers (a ∷ [])) ∙ append-nil (answer_bytes a)); rest_is = inl refl } in
     let c = below.cut (half ++ b ∷ []) tail others (a ∷ []) [] (subst (λ v. Hears v others []) (sym (append_assoc half (b ∷ []) tail)) hears) one in
-    let t = turner (with_half (with_half h half) []) next a c.0 e up (subst (P h.phase h.out h.next h.records h.left) c.1 holds) turns in
+    let t = turner (with_half (with_half h half) []) next a c.0 e up (subst (P h.phase h.out h.next h.heard h.records h.left) c.1 holds) turns in
     let count = counted e at t.on in
     record {
       on = t.on;
@@ -176,7 +176,7 @@ by_answer P below turner h next bytes more half at e a others up within holds he
     }
 
 by_byte : (P : Holding) → OfAnswers → Turner P → (h next : HostView) (bytes more half : List ℕ) (at : ℕ) (e : HostEvent) (others : List Answer) → h.phase ≢ Down
-    → at < length bytes → e ≢ event.None → (half ≡ []) ⊎ HalfAnswer half → P h.phase h.out h.next h.records h.left others
+    → at < length bytes → e ≢ event.None → (half ≡ []) ⊎ HalfAnswer half → P h.phase h.out h.next h.heard h.records h.left others
     → Hears (half ++ slice_index bytes at ∷ (drop (at + 1) bytes ++ more)) others [] → HearsByte (with_half h half) (slice_index bytes at) at e next
     → After P next bytes more (taken_at e at) e
 by_byte P below turner h next bytes more half at e others up within some rest holds hears (inl grows) = absurd (no_growth (with_half h half) next _ e some grows)
@@ -197,7 +197,7 @@ one_heard P below turner h next bytes more count e some g (inr (at, half, within
     ∙ ap (λ v. h.half ++ v) (append_assoc (front ++ b ∷ []) back more ∙ append_assoc front (b ∷ []) (back ++ more))
     ∙ sym (append_assoc h.half front (b ∷ (back ++ more))) in
     let c = below.cut (h.half ++ front) (b ∷ (back ++ more)) g.answers passed.ignored half (subst (λ v. Hears v g.answers []) split g.hears) passed.hears in
-    let holds = passed_by P turner h passed.ignored c.0 g.up passed.each (subst (P h.phase h.out h.next h.records h.left) c.1 g.holds) in
+    let holds = passed_by P turner h passed.ignored c.0 g.up passed.each (subst (P h.phase h.out h.next h.heard h.records h.left) c.1 g.holds) in
     subst (λ k. After P next bytes more k e) (sym is_count)
     (by_byte P below turner h next bytes more half at e c.0 g.up within some passed.hears.rest_is holds c.2 heard)
 

@@ -1,6 +1,6 @@
 -- A line is still on one of its ways after each event.
 use Rattle.std.proofs.Common.{◌≡◌, ◌≢◌, ◌<◌, ◌+◌, ◌≤◌, inl, inr, ℕ, List, [], ◌∷◌, ◌++◌, length, take, drop, Option, Some, None, refl, sym, ◌∙◌, ap, subst, arith, append-nil, append_assoc, take-append-drop, IsTrue}
-use Rattle.std.specs.Prelude.{Bool, true, false, ◌&&◌, if◌then◌else◌}
+use Rattle.std.specs.Prelude.{Bool, true, false, min, ◌&&◌, if◌then◌else◌}
 use Rattle.std.proofs.lemmas.Grind.{flat_map-append}
 use Rattle.std.specs.List.{AllByRecursion}
 use Rattle.escpos_command.specs.declared.answer.Answer.{Answer}
@@ -9,7 +9,8 @@ use Rattle.escpos_command.specs.declared.command.Command.{Command}
 use Rattle.escpos_command.specs.declared.command.Command.TheVariants as kind
 use Rattle.escpos_command.specs.Answers.{Hears, answer_bytes, is_answer, spell_answers}
 use Rattle.escpos_command.specs.CommandTable.{AreCommands}
-use Rattle.escpos_command.specs.Digits.{mark_count, mark_of}
+use Rattle.escpos_command.specs.Digits.{mark_count}
+use Rattle.escpos_host.specs.Counted.{id_of}
 use Rattle.escpos_command.specs.Marks.{marks}
 use Rattle.escpos_command.specs.Meanings.{reports}
 use Rattle.escpos_paper.specs.declared.item.Item.{Item}
@@ -30,17 +31,17 @@ use Rattle.escpos_link.specs.declared.event.Handed.TheVariants as handed
 use Rattle.escpos_link.specs.declared.event.Note.{Note}
 use Rattle.escpos_link.specs.EventTable.{After, HandsOver, Restarted, answers_left, delivered, ended_fed, first_link, heard_to, hung_up, left_by, live_fed, moved, off_link, on_its_way, restarted, with_host, with_new_link, with_printer, without_first}
 use Rattle.escpos_link.specs.Line.{IsLine, LineView}
-use Rattle.escpos_link.specs.Resumed.{resumed, resumed_host}
+use Rattle.escpos_link.specs.Resumed.{resumed, resumed_from, resumed_host}
 use Rattle.escpos_link.specs.Stands.{Stands}
 use Rattle.escpos_link.specs.Trusted.{IsFitting}
-use Rattle.escpos_link.specs.Ways.{Fresh, IsKnown, IsRest, Known, Off, OnWay, Way, answered, answered_marks, flight_of}
+use Rattle.escpos_link.specs.Ways.{Fresh, IsRest, Off, OnWay, Row, Way, answered, answered_marks, flight_of}
 use Rattle.escpos_link.proofs.Aligning.{OfReadings, marks_append}
 use Rattle.escpos_link.proofs.Claiming.{OfPaper, course_stands, owed_stands}
 use Rattle.escpos_link.proofs.Feeding.{Read, fed_way}
 use Rattle.escpos_link.proofs.Standing.{stands_front}
 use Rattle.escpos_link.proofs.Leaving.{items_are, leaves_way, off_way, opened_way}
 use Rattle.escpos_link.proofs.Links.{mark_fresh, request_fresh}
-use Rattle.escpos_link.proofs.Numbers.{OfNumbers, known_back, known_front, known_join}
+use Rattle.escpos_link.proofs.Numbers.{OfNumbers, row_back, row_from, row_join, row_split}
 use Rattle.escpos_link.proofs.AfterPutting.{asked_way, moved_way, nudged_way, submitted_way}
 use Rattle.escpos_link.proofs.Turning.{OfAnswers}
 
@@ -54,7 +55,7 @@ pub record Laws : Type 0 where
 -- The way of a line with these answers on their way to its host.
 abbrev pub WayOf : ℕ → LineView → List Answer → Type 0
 WayOf width l answers =
-    Way width l.host.phase l.host.out l.host.next l.host.records l.printer.sheet l.printer.half l.ended l.live (answered_marks (answers ++ l.printer.waiting))
+    Way width l.host.phase l.host.out l.host.next l.host.heard l.host.records l.printer.sheet l.printer.half l.ended l.live (answered_marks (answers ++ l.printer.waiting))
 
 pub marks_join : (some others : List Answer) → answered_marks (some ++ others) ≡ answered_marks some ++ answered_marks others
 marks_join some others = flat_map-append answered some others
@@ -68,29 +69,33 @@ width_is width l t = ap (λ (s : Sheet). s.line_dots) t.reached.2
 
 -- ## The headline
 
-way_stands : (width : ℕ) → OfPaper → (phase : Phase) (out : List ℕ) (next : ℕ) (records : List (List Command)) (sheet : Sheet) (half : List ℕ) (ended : List (List ℕ))
-    (live : Option (List ℕ)) (pending : List (List ℕ)) → Way width phase out next records sheet half ended live pending → Stands width records sheet.items
-way_stands width paper phase out next records sheet half ended None pending (inl w) = owed_stands width records (flight_of phase) next sheet.items pending w.owed
-way_stands width paper phase out next records sheet half ended None pending (inr w) = w.stands
-way_stands width paper phase out next records sheet half ended (Some bytes) pending (inl w) =
-    subst (Stands width records) (sym (items_are width sheet w.kept w.ran w.sheet_is)) (course_stands width paper records (flight_of phase) next w.kept w.ran pending w.due w.course)
-way_stands width paper phase out next records sheet half ended (Some bytes) pending (inr w) = w.stands
+way_stands : (width : ℕ) → OfPaper → (phase : Phase) (out : List ℕ) (next heard : ℕ) (records : List (List Command)) (sheet : Sheet) (half : List ℕ) (ended : List (List ℕ))
+    (live : Option (List ℕ)) (pending : List (List ℕ)) → Way width phase out next heard records sheet half ended live pending → Stands width records sheet.items
+way_stands width paper phase out next heard records sheet half ended None pending (inl w) = owed_stands width heard records (flight_of phase) next sheet.items pending w.owed
+way_stands width paper phase out next heard records sheet half ended None pending (inr w) = w.stands
+way_stands width paper phase out next heard records sheet half ended (Some bytes) pending (inl w) =
+    subst (Stands width records) (sym (items_are width sheet w.kept w.ran w.sheet_is)) (course_stands width heard paper records (flight_of phase) next w.kept w.ran pending w.due w.course)
+way_stands width paper phase out next heard records sheet half ended (Some bytes) pending (inr w) = w.stands
 
 pub on_way_stands : (width : ℕ) → OfPaper → (l : LineView) → OnWay width l → Stands width l.host.records l.printer.sheet.items
-on_way_stands width paper l t = way_stands width paper _ _ _ _ _ _ _ l.live _ t.way
+on_way_stands width paper l t = way_stands width paper _ _ _ _ _ _ _ _ l.live _ t.way
 
 -- ## What the host does
 
-opened_trusted : (width : ℕ) → Laws → (l : LineView) (bytes : List ℕ) → IsSound l.host → IsLine l → l.host.phase ≡ Down → Fresh (l.host.next + 1) bytes → OnWay width l
-    → OnWay width (with_new_link l (record { phase = Opening l.host.next; out = bytes; half = []; next = l.host.next + 1; records = l.host.records; left = l.host.left }))
-opened_trusted width laws l bytes sound i is_down fresh t = record {
+-- The next number is near enough to the last one that was heard.
+near : (h : HostView) → HasMark h → h.next < h.heard + mark_count
+near h few = omega (arith, few)
+
+opened_trusted : (width : ℕ) → Laws → (l : LineView) (bytes : List ℕ) → IsSound l.host → IsLine l → l.host.phase ≡ Down → HasMark l.host → Fresh l.host.next (l.host.next + 1) bytes → OnWay width l
+    → OnWay width (with_new_link l (record { phase = Opening l.host.next; out = bytes; half = []; next = l.host.next + 1; heard = l.host.heard; records = l.host.records; left = l.host.left }))
+opened_trusted width laws l bytes sound i is_down few fresh t = record {
   answers = [];
   hears = subst (λ v. Hears v [] []) (sym (i.quiet is_down)) none_heard;
   half = t.half;
   reached = t.reached;
-  way = opened_way width laws.paper l.host.phase l.host.out l.host.next l.host.records l.printer.sheet l.printer.half l.ended l.live (answered_marks t.answers)
-      (answered_marks l.printer.waiting) bytes (i.down is_down) is_down fresh t.half
-      (subst (Way width l.host.phase l.host.out l.host.next l.host.records l.printer.sheet l.printer.half l.ended l.live) (marks_join t.answers l.printer.waiting) t.way);
+  way = opened_way width laws.paper l.host.phase l.host.out l.host.next l.host.heard l.host.records l.printer.sheet l.printer.half l.ended l.live (answered_marks t.answers)
+      (answered_marks l.printer.waiting) bytes (i.down is_down) is_down (near l.host few) fresh t.half
+      (subst (Way width l.host.phase l.host.out l.host.next l.host.heard l.host.records l.printer.sheet l.printer.half l.ended l.live) (marks_join t.answers l.printer.waiting) t.way);
 }
 
 -- The host put something out, and nothing else happened.
@@ -106,7 +111,7 @@ put_trusted width l host t same way = record {
 nudged_trusted : (width : ℕ) → Laws → (l : LineView) → IsOpening l.host.phase → HasMark l.host → OnWay width l → OnWay width (with_host l (nudged l.host))
 nudged_trusted width laws l is few t =
     put_trusted width l (nudged l.host) t refl
-    (nudged_way width laws.readings laws.numbers laws.paper l.host.phase l.host.out l.host.next l.host.records l.printer.sheet l.printer.half l.ended l.live _ is few t.way)
+    (nudged_way width laws.readings laws.numbers laws.paper l.host.phase l.host.out l.host.next l.host.heard l.host.records l.printer.sheet l.printer.half l.ended l.live _ is (near l.host few) t.way)
 
 pub are_join : (some others : List Command) → AreCommands some → AreCommands others → AreCommands (some ++ others)
 are_join [] others a b = b
@@ -115,24 +120,24 @@ are_join (c ∷ some) others a b = (a.0, are_join some others a.1 b)
 submitted_trusted : (width : ℕ) → Laws → (l : LineView) (flight : List InFlight) (receipt : List Command) → l.host.phase ≡ Open flight → HasMark l.host
     → IsFitting (event.Submit receipt) → OnWay width l → OnWay width (with_host l (submitted l.host flight receipt))
 submitted_trusted width laws l flight receipt is few fits t =
-    let all : AreCommands (kind.Init ∷ (receipt ++ kind.Mark (mark_of l.host.next) ∷ [])) =
-    (refl, are_join receipt (kind.Mark (mark_of l.host.next) ∷ []) fits.1 (laws.numbers.ids l.host.next few, tt)) in
+    let all : AreCommands (kind.Init ∷ (receipt ++ kind.Mark (id_of l.host.next) ∷ [])) =
+    (refl, are_join receipt (kind.Mark (id_of l.host.next) ∷ []) fits.1 (laws.numbers.ids l.host.next, tt)) in
     put_trusted width l (submitted l.host flight receipt) t refl
-    (submitted_way width laws.readings laws.numbers l.host.phase l.host.out l.host.next l.host.records l.printer.sheet l.printer.half l.ended l.live _ flight receipt is few
+    (submitted_way width laws.readings laws.numbers l.host.phase l.host.out l.host.next l.host.heard l.host.records l.printer.sheet l.printer.half l.ended l.live _ flight receipt is (near l.host few)
     fits.0 fits.1 all t.way)
 
 asked_trusted : (width : ℕ) → Laws → (l : LineView) (n : ℕ) → l.host.phase ≡ Open [] → IsFitting (event.Ask n) → OnWay width l → OnWay width (with_host l (asked l.host n))
 asked_trusted width laws l n is fits t =
     put_trusted width l (asked l.host n) t refl
-    (asked_way width laws.readings laws.paper l.host.phase l.host.out l.host.next l.host.records l.printer.sheet l.printer.half l.ended l.live _ (kind.Status n) is fits refl t.way)
+    (asked_way width laws.readings laws.paper l.host.phase l.host.out l.host.next l.host.heard l.host.records l.printer.sheet l.printer.half l.ended l.live _ (kind.Status n) is fits refl t.way)
 
 reports_trusted : (width : ℕ) → Laws → (l : LineView) → l.host.phase ≡ Open [] → OnWay width l → OnWay width (with_host l (reports_asked l.host))
 reports_trusted width laws l is t =
     put_trusted width l (reports_asked l.host) t refl
-    (asked_way width laws.readings laws.paper l.host.phase l.host.out l.host.next l.host.records l.printer.sheet l.printer.half l.ended l.live _ ask_reports is refl refl t.way)
+    (asked_way width laws.readings laws.paper l.host.phase l.host.out l.host.next l.host.heard l.host.records l.printer.sheet l.printer.half l.ended l.live _ ask_reports is refl refl t.way)
 
-next_known : (next : ℕ) → next < mark_count → IsKnown (next + 1) (mark_of next)
-next_known next few = (next, omega arith, few, refl)
+next_row : (next : ℕ) → Row next (next + 1) (id_of next ∷ [])
+next_row next = let least : next ≤ next = omega arith in let most : next + 1 ≤ next + 1 = omega arith in (next, least, refl, most)
 
 moved_trusted : (width : ℕ) (l : LineView) (n : ℕ) → OnWay width l → OnWay width (moved l n)
 moved_trusted width l n t = record {
@@ -140,16 +145,19 @@ moved_trusted width l n t = record {
   hears = t.hears;
   half = t.half;
   reached = t.reached;
-  way = moved_way width l.host.phase l.host.out l.host.next l.host.records l.printer.sheet l.printer.half l.ended l.live _ n t.way;
+  way = moved_way width l.host.phase l.host.out l.host.next l.host.heard l.host.records l.printer.sheet l.printer.half l.ended l.live _ n t.way;
 }
 
--- The host is off its link, with the first of its records and a next number that isn't below the one it had.
+-- The host is off its link, with the first of its records, and a next number that isn't below the one it had. It may know of fewer marks
+-- that are answered.
 off_trusted : (width : ℕ) → Laws → (l : LineView) (host : HostView) (forgotten : List (List Command)) → host.phase ≡ Down → host.half ≡ []
-    → l.host.records ≡ host.records ++ forgotten → l.host.next ≤ host.next → OnWay width l → OnWay width (off_link (with_host l host))
-off_trusted width laws l host forgotten is_down none split more t =
-    let off = off_way width laws.paper l.host.phase l.host.out l.host.next host.next l.host.records l.printer.sheet l.printer.half l.ended l.live (answered_marks t.answers)
-    (answered_marks l.printer.waiting) more
-    (subst (Way width l.host.phase l.host.out l.host.next l.host.records l.printer.sheet l.printer.half l.ended l.live) (marks_join t.answers l.printer.waiting) t.way) in
+    → l.host.records ≡ host.records ++ forgotten → l.host.next ≤ host.next → host.heard ≤ l.host.heard → OnWay width l
+    → OnWay width (off_link (with_host l host))
+off_trusted width laws l host forgotten is_down none split more less t =
+    let off = off_way width laws.paper l.host.phase l.host.out l.host.next l.host.heard l.host.records l.printer.sheet l.printer.half l.ended l.live (answered_marks t.answers)
+    (answered_marks l.printer.waiting)
+    (subst (Way width l.host.phase l.host.out l.host.next l.host.heard l.host.records l.printer.sheet l.printer.half l.ended l.live) (marks_join t.answers l.printer.waiting) t.way) in
+    let within = off.within in
     record {
       answers = [];
       hears = subst (λ v. Hears (v ++ []) [] []) (sym none) none_heard;
@@ -158,20 +166,35 @@ off_trusted width laws l host forgotten is_down none split more t =
       way = inr (record {
         down = is_down;
         stands = stands_front width host.records forgotten l.printer.sheet.items (subst (λ v. Stands width v l.printer.sheet.items) split off.stands);
-        known = off.known;
+        reach = off.reach;
+        end = off.end;
+        within = omega (arith, within, more);
+        known = row_from host.heard l.host.heard off.reach (answered_marks l.printer.waiting) less off.known;
         given_up = off.given_up;
       });
     }
 
 hung_trusted : (width : ℕ) → Laws → (l : LineView) (phase : Phase) → l.host.phase ≡ phase → IsSound l.host → OnWay width l → OnWay width (off_link (with_host l (hung_up phase l.host)))
-hung_trusted width laws l Down is sound t = off_trusted width laws l l.host [] is (sound.quiet is).1 (sym (append-nil l.host.records)) (omega arith) t
-hung_trusted width laws l (Opening first) is sound t = off_trusted width laws l (gone_down l.host) [] refl refl (sym (append-nil l.host.records)) (omega arith) t
-hung_trusted width laws l (Open flight) is sound t = off_trusted width laws l (gone_down l.host) [] refl refl (sym (append-nil l.host.records)) (omega arith) t
+hung_trusted width laws l Down is sound t = off_trusted width laws l l.host [] is (sound.quiet is).1 (sym (append-nil l.host.records)) (omega arith) (omega arith) t
+hung_trusted width laws l (Opening first) is sound t =
+    off_trusted width laws l (gone_down l.host) [] refl refl (sym (append-nil l.host.records)) (omega arith) (omega arith) t
+hung_trusted width laws l (Open flight) is sound t =
+    off_trusted width laws l (gone_down l.host) [] refl refl (sym (append-nil l.host.records)) (omega arith) (omega arith) t
+
+no_more : (a f : ℕ) → min a f ≤ a
+no_more a f = omega arith
 
 -- The host goes on with the first of its records.
 pub resumed_on_way : (width : ℕ) → Laws → (l : LineView) (f count : ℕ) → l.host.next ≤ f → OnWay width l → OnWay width (resumed l f count)
 resumed_on_way width laws l f count least t =
-    off_trusted width laws l (resumed_host l.host f count) (drop count l.host.records) refl refl (sym (take-append-drop count l.host.records)) least t
+    off_trusted width laws l (resumed_host l.host f count) (drop count l.host.records) refl refl (sym (take-append-drop count l.host.records)) least (no_more l.host.heard f) t
+
+-- The same where it knows only of marks below a number that it had heard.
+pub resumed_from_on_way : (width : ℕ) → Laws → (l : LineView) (f count heard : ℕ) → l.host.next ≤ f → heard ≤ l.host.heard → OnWay width l
+    → OnWay width (resumed_from l f count heard)
+resumed_from_on_way width laws l f count heard least less t =
+    off_trusted width laws l (record { phase = Down; out = []; half = []; next = f; heard = heard; records = take count l.host.records; left = [] }) (drop count l.host.records) refl refl
+    (sym (take-append-drop count l.host.records)) least less t
 
 -- ## What the printer does
 
@@ -184,9 +207,9 @@ left_trusted width laws l printer kept ran is same rest t ys split = record {
   hears = t.hears;
   half = rest;
   reached = (kept, ran, is);
-  way = leaves_way width laws.paper l.host.phase l.host.out l.host.next l.host.records l.printer.sheet printer.sheet l.printer.half printer.half l.ended l.live
+  way = leaves_way width laws.paper l.host.phase l.host.out l.host.next l.host.heard l.host.records l.printer.sheet printer.sheet l.printer.half printer.half l.ended l.live
       (answered_marks (t.answers ++ printer.waiting)) ys same rest
-      (subst (Way width l.host.phase l.host.out l.host.next l.host.records l.printer.sheet l.printer.half l.ended l.live) split t.way);
+      (subst (Way width l.host.phase l.host.out l.host.next l.host.heard l.host.records l.printer.sheet l.printer.half l.ended l.live) split t.way);
 }
 
 restarted_trusted : (width : ℕ) → Laws → (l : LineView) (printer : PrinterView) → Restarted l.printer printer → OnWay width l → OnWay width (without_first (with_printer l printer))
@@ -261,8 +284,8 @@ taken_trusted width laws l k n cs printer few took t =
       hears = t.hears;
       half = ran.reads.rest_is;
       reached = (t.reached.0, t.reached.1 ++ cs, ran.page width t.reached.0 t.reached.1 t.reached.2);
-      way = subst (Way width l.host.phase l.host.out l.host.next l.host.records printer.sheet printer.half (ended_fed l.ended k) (live_fed l.ended l.live k)) (grown t.answers l.printer printer _ cs took)
-          (fed_way width laws.readings laws.numbers laws.paper l.host.phase l.host.out l.host.next l.host.records l.printer.sheet printer.sheet l.printer.half printer.half
+      way = subst (Way width l.host.phase l.host.out l.host.next l.host.heard l.host.records printer.sheet printer.half (ended_fed l.ended k) (live_fed l.ended l.live k)) (grown t.answers l.printer printer _ cs took)
+          (fed_way width laws.readings laws.paper l.host.phase l.host.out l.host.next l.host.heard l.host.records l.printer.sheet printer.sheet l.printer.half printer.half
           l.ended l.live _ k n cs few read t.way);
     }
 
@@ -289,26 +312,34 @@ fed_trusted width laws l k n why printer feeds t =
 -- ## Answers
 
 -- An answer is lost.
-known_lost : (b : ℕ) (answers waiting : List Answer) (a : Answer) → Known b (answered_marks (answers ++ a ∷ waiting)) → Known b (answered_marks (answers ++ waiting))
-known_lost b answers waiting a k =
-    let split = subst (Known b) (marks_join answers (a ∷ waiting)) k in
-    subst (Known b) (sym (marks_join answers waiting))
-    (known_join b (answered_marks answers) (answered_marks waiting) (known_front b (answered_marks answers) (answered_marks (a ∷ waiting)) split)
-    (known_back b (answered a) (answered_marks waiting) (known_back b (answered_marks answers) (answered_marks (a ∷ waiting)) split)))
+row_lost : (from to : ℕ) (answers waiting : List Answer) (a : Answer) → Row from to (answered_marks (answers ++ a ∷ waiting)) → Row from to (answered_marks (answers ++ waiting))
+row_lost from to answers waiting a k =
+    let r = row_split from to (answered_marks answers) (answered_marks (a ∷ waiting)) (subst (Row from to) (marks_join answers (a ∷ waiting)) k) in
+    subst (Row from to) (sym (marks_join answers waiting))
+    (row_join from r.0 to (answered_marks answers) (answered_marks waiting) r.1 (row_back r.0 to (answered a) (answered_marks waiting) r.2))
 
-lost_way : (width : ℕ) (phase : Phase) (out : List ℕ) (next : ℕ) (records : List (List Command)) (sheet : Sheet) (half : List ℕ) (ended : List (List ℕ))
-    (live : Option (List ℕ)) (xs ys : List (List ℕ)) → ended ≢ [] → ((b : ℕ) → Known b xs → Known b ys) → Way width phase out next records sheet half ended live xs
-    → Way width phase out next records sheet half ended live ys
-lost_way width phase out next records sheet half ended None xs ys some fewer (inl w) = absurd (some w.only)
-lost_way width phase out next records sheet half ended None xs ys some fewer (inr w) =
-    inr (record { down = w.down; stands = w.stands; known = fewer next w.known; given_up = w.given_up })
-lost_way width phase out next records sheet half ended (Some bytes) xs ys some fewer (inl w) = absurd (some w.only)
-lost_way width phase out next records sheet half ended (Some bytes) xs ys some fewer (inr w) = inr (record {
+lost_way : (width : ℕ) (phase : Phase) (out : List ℕ) (next heard : ℕ) (records : List (List Command)) (sheet : Sheet) (half : List ℕ) (ended : List (List ℕ))
+    (live : Option (List ℕ)) (xs ys : List (List ℕ)) → ended ≢ [] → ((from to : ℕ) → Row from to xs → Row from to ys) → Way width phase out next heard records sheet half ended live xs
+    → Way width phase out next heard records sheet half ended live ys
+lost_way width phase out next heard records sheet half ended None xs ys some fewer (inl w) = absurd (some w.only)
+lost_way width phase out next heard records sheet half ended None xs ys some fewer (inr w) = inr (record {
+  down = w.down;
+  stands = w.stands;
+  reach = w.reach;
+  end = w.end;
+  within = w.within;
+  known = fewer heard w.reach w.known;
+  given_up = w.given_up;
+})
+lost_way width phase out next heard records sheet half ended (Some bytes) xs ys some fewer (inl w) = absurd (some w.only)
+lost_way width phase out next heard records sheet half ended (Some bytes) xs ys some fewer (inr w) = inr (record {
   first = w.first;
   opening = w.opening;
   within = w.within;
+  apart = w.apart;
   stands = w.stands;
-  known = fewer w.first w.known;
+  reach = w.reach;
+  known = fewer heard w.reach w.known;
   given_up = w.given_up;
   newest = w.newest;
 })
@@ -320,8 +351,8 @@ lost_trusted width l a answers is some t = record {
   hears = t.hears;
   half = t.half;
   reached = t.reached;
-  way = lost_way width l.host.phase l.host.out l.host.next l.host.records l.printer.sheet l.printer.half l.ended l.live _ _ some
-      (λ b k. known_lost b t.answers answers a (subst (λ v. Known b (answered_marks (t.answers ++ v))) is k)) t.way;
+  way = lost_way width l.host.phase l.host.out l.host.next l.host.heard l.host.records l.printer.sheet l.printer.half l.ended l.live _ _ some
+      (λ from to k. row_lost from to t.answers answers a (subst (λ v. Row from to (answered_marks (t.answers ++ v))) is k)) t.way;
 }
 
 handed_trusted : (width : ℕ) → Laws → (l : LineView) (a : Answer) (answers : List Answer) → IsLine l → l.printer.waiting ≡ a ∷ answers → OnWay width l → OnWay width (on_its_way l a answers)
@@ -335,7 +366,7 @@ handed_trusted width laws l a answers i is t =
           (laws.answers.joined (l.host.half ++ l.coming) (answer_bytes a) t.answers (a ∷ []) [] [] t.hears one);
       half = t.half;
       reached = t.reached;
-      way = subst (λ v. Way width l.host.phase l.host.out l.host.next l.host.records l.printer.sheet l.printer.half l.ended l.live (answered_marks v))
+      way = subst (λ v. Way width l.host.phase l.host.out l.host.next l.host.heard l.host.records l.printer.sheet l.printer.half l.ended l.live (answered_marks v))
           (ap (λ v. t.answers ++ v) is ∙ sym (append_assoc t.answers (a ∷ []) answers)) t.way;
     }
 
@@ -354,10 +385,12 @@ OnWayHeard width l =
 pub on_way : (width : ℕ) → Laws → (e : Event) (l after : LineView) (n : Note) → IsFitting e → IsSound l.host → IsLine l → After e l n after → OnWayHeard width l → OnWay width l
     → OnWay width after
 on_way width laws event.LinkUp l after n fits sound i (done, is_down, mark, same) heard t =
-    subst (OnWay width) (sym same) (opened_trusted width laws l (linked l.host).out sound i is_down (mark_fresh (IsKnown (l.host.next + 1)) (mark_of l.host.next) (next_known l.host.next mark)) t)
+    subst (OnWay width) (sym same) (opened_trusted width laws l (linked l.host).out sound i is_down mark
+    (mark_fresh (Row l.host.next (l.host.next + 1)) (id_of l.host.next) (laws.numbers.ids l.host.next) (next_row l.host.next)) t)
 on_way width laws event.LinkUpReporting l after n fits sound i (done, is_down, mark, same) heard t =
     subst (OnWay width) (sym same)
-    (opened_trusted width laws l (linked_reporting l.host).out sound i is_down (request_fresh (IsKnown (l.host.next + 1)) (mark_of l.host.next) (next_known l.host.next mark)) t)
+    (opened_trusted width laws l (linked_reporting l.host).out sound i is_down mark
+    (request_fresh (Row l.host.next (l.host.next + 1)) (id_of l.host.next) (laws.numbers.ids l.host.next) (next_row l.host.next)) t)
 on_way width laws event.Nudge l after n fits sound i (done, opening, mark, same) heard t = subst (OnWay width) (sym same) (nudged_trusted width laws l opening mark t)
 on_way width laws (event.Submit receipt) l after n fits sound i (flight, done, is, few, mark, same) heard t =
     subst (OnWay width) (sym same) (submitted_trusted width laws l flight receipt is mark fits t)
@@ -374,34 +407,36 @@ on_way width laws event.PrinterLeaves l after n fits sound i (done, same) heard 
 on_way width laws event.PrinterRestart l after n fits sound i (printer, done, restart, same) heard t = subst (OnWay width) (sym same) (restarted_trusted width laws l printer restart t)
 on_way width laws event.HostDrops l after n fits sound i (done, same) heard t = subst (OnWay width) (sym same) (hung_trusted width laws l l.host.phase refl sound t)
 on_way width laws (event.HostRestart f) l after n fits sound i (done, least, same) heard t =
-    subst (OnWay width) (sym same) (off_trusted width laws l (restarted l.host f) [] refl refl (sym (append-nil l.host.records)) least t)
+    subst (OnWay width) (sym same) (off_trusted width laws l (restarted l.host f) [] refl refl (sym (append-nil l.host.records)) least (no_more l.host.heard f) t)
 on_way width laws (event.SetCondition condition) l after n fits sound i (done, same) heard t =
     subst (OnWay width) (sym same) (record {
       answers = t.answers;
       hears = t.hears;
       half = t.half;
       reached = t.reached;
-      way = subst (Way width l.host.phase l.host.out l.host.next l.host.records l.printer.sheet l.printer.half l.ended l.live)
+      way = subst (Way width l.host.phase l.host.out l.host.next l.host.heard l.host.records l.printer.sheet l.printer.half l.ended l.live)
           (changed_marks t.answers l.printer.automatic l.printer.condition condition l.printer.waiting) t.way;
     })
 
 -- ## A new line
 
-pub begun_on_way : (width : ℕ) (l : LineView) (first : ℕ)
-    → l.host ≡ record { phase = Down; out = []; half = []; next = first; records = []; left = [] } → SheetIs width l.printer.sheet [] []
+pub begun_on_way : (width : ℕ) (l : LineView) (first heard : ℕ) → heard ≤ first
+    → l.host ≡ record { phase = Down; out = []; half = []; next = first; heard = heard; records = []; left = [] } → SheetIs width l.printer.sheet [] []
     → l.printer.half ≡ [] → l.printer.waiting ≡ [] → l.ended ≡ [] → l.live ≡ None → l.coming ≡ [] → OnWay l.printer.sheet.line_dots l
-begun_on_way width l first host sheet half waiting ended live coming =
+begun_on_way width l first heard less host sheet half waiting ended live coming =
     let plain : Hears ([] ++ []) [] [] = none_heard in
-    let off : Off width Down first [] l.printer.sheet l.printer.half [] [] = record { down = refl; stands = tt; known = tt; given_up = tt } in
+    let same : heard ≤ heard = omega arith in
+    let off : Off width Down first heard [] l.printer.sheet l.printer.half [] [] =
+    record { down = refl; stands = tt; reach = heard; end = heard; within = less; known = same; given_up = same } in
     let whole : OnWay width l = record {
       answers = [];
       hears = subst (λ v. Hears (l.host.half ++ v) [] []) (sym coming) (subst (λ (h : HostView). Hears (h.half ++ []) [] []) (sym host) plain);
       half = inl half;
       reached = ([], [], sheet);
-      way = subst (λ v. Way width l.host.phase l.host.out l.host.next l.host.records l.printer.sheet l.printer.half v l.live (answered_marks l.printer.waiting)) (sym ended)
-          (subst (λ v. Way width l.host.phase l.host.out l.host.next l.host.records l.printer.sheet l.printer.half [] v (answered_marks l.printer.waiting)) (sym live)
-          (subst (λ v. Way width l.host.phase l.host.out l.host.next l.host.records l.printer.sheet l.printer.half [] None (answered_marks v)) (sym waiting)
-          (subst (λ (h : HostView). Way width h.phase h.out h.next h.records l.printer.sheet l.printer.half [] None []) (sym host) (inr off))));
+      way = subst (λ v. Way width l.host.phase l.host.out l.host.next l.host.heard l.host.records l.printer.sheet l.printer.half v l.live (answered_marks l.printer.waiting)) (sym ended)
+          (subst (λ v. Way width l.host.phase l.host.out l.host.next l.host.heard l.host.records l.printer.sheet l.printer.half [] v (answered_marks l.printer.waiting)) (sym live)
+          (subst (λ v. Way width l.host.phase l.host.out l.host.next l.host.heard l.host.records l.printer.sheet l.printer.half [] None (answered_marks v)) (sym waiting)
+          (subst (λ (h : HostView). Way width h.phase h.out h.next h.heard h.records l.printer.sheet l.printer.half [] None []) (sym host) (inr off))));
     } in
     subst (λ v. OnWay v l) (sym (ap (λ (s : Sheet). s.line_dots) sheet)) whole
 

@@ -166,9 +166,9 @@ abbrev pub hung_up : Phase → HostView → HostView
 hung_up Down h = h
 hung_up _ h = gone_down h
 
--- The host is made anew from its records.
+-- The host is made anew from its records, and from what it had heard.
 abbrev pub restarted : HostView → ℕ → HostView
-restarted h f = record { phase = Down; out = []; half = []; next = f; records = h.records; left = [] }
+restarted h f = record { phase = Down; out = []; half = []; next = f; heard = min h.heard f; records = h.records; left = [] }
 
 -- ## The table
 

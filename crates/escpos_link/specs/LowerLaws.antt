@@ -1,12 +1,12 @@
 -- What the laws of the layers below say, as sending a receipt over a line on which nothing is under way needs them.
 -- For private clauses, invariants and proofs alone: no public clause names these.
-use Rattle.std.specs.Prelude.{ℕ, ◌≡◌, ◌≢◌, ◌⊎◌, ◌<◌, List, [], ◌∷◌, ◌++◌, length, IsTrue}
+use Rattle.std.specs.Prelude.{ℕ, ◌≡◌, ◌≢◌, ◌⊎◌, List, [], ◌∷◌, ◌++◌, length, IsTrue}
 use Rattle.escpos_command.specs.declared.answer.Answer.{Answer}
 use Rattle.escpos_command.specs.declared.command.Command.{Command}
 use Rattle.escpos_command.specs.declared.command.Command.TheVariants as kind
 use Rattle.escpos_command.specs.Answers.{AreWholeAnswers, Hears, answer_bytes, is_answer}
 use Rattle.escpos_command.specs.CommandTable.{spell}
-use Rattle.escpos_command.specs.Digits.{mark_count, mark_of}
+use Rattle.escpos_host.specs.Counted.{id_of}
 use Rattle.escpos_command.specs.Parameters.{is_mark_id}
 use Rattle.escpos_paper.specs.Printed.{printed}
 use Rattle.escpos_printer.specs.declared.printer.FeedStop.{FeedStop}
@@ -32,4 +32,4 @@ pub record Laws : Type 0 where
   pub one_hearing : (bs : List ℕ) (some others : List Answer) (x y : List ℕ) → Hears bs some x → Hears bs others y → (some ≡ others) × (x ≡ y)
   pub init : (width : ℕ) (a b : List Command) → printed width (a ++ kind.Init ∷ [] ++ b) ≡ printed width a ++ printed width b
   pub marks : (width : ℕ) (cs : List Command) (id : List ℕ) → printed width (cs ++ kind.Mark id ∷ []) ≡ printed width cs
-  pub ids : (n : ℕ) → n < mark_count → IsTrue (is_mark_id (mark_of n))
+  pub ids : (n : ℕ) → IsTrue (is_mark_id (id_of n))

@@ -1,11 +1,12 @@
 -- What an answer proves, however late it comes: a promise that stands from event to event.
 --
 -- When a host's link is cut, the printer may still print the receipt that was in flight, and answer its closing mark; and
--- that answer may come on a later link. No two marks of a host have one id, so it shows which receipt is on the paper. A
+-- that answer may come on a later link. No two marks of a host that may still be answered have one id, so it shows which receipt
+-- is on the paper. A
 -- *promise* is a receipt and the id of its closing mark: if the mark is answered, then the receipt stands on the paper after
 -- all that are recorded. It is made before the mark is put out, when it says nothing yet; it holds for the receipt in flight,
--- because the printer reads what the host puts; and it stays, whatever happens, as long as no other receipt is recorded:
--- marks that come after it have other ids, and nothing takes an item from the paper.
+-- because the printer reads what the host puts; and it stays, whatever happens, as long as no other receipt is recorded and the
+-- mark may still be answered: marks that come after it have other ids until then, and nothing takes an item from the paper.
 --
 -- A host hears such answers itself as long as it is opening a link: so what is left of an older link is promised, one receipt
 -- after another (`Trusted`). `Promising` has the law.
@@ -34,6 +35,9 @@ IsIn id (x ∷ xs) = (x ≡ id) ⊎ IsIn id xs
 abbrev pub IsOther : List ℕ → List ℕ → Type 0
 IsOther id x = IsTrue (is_mark_id x) × (x ≢ id)
 
+abbrev pub AreOther : List ℕ → List (List ℕ) → Type 0
+AreOther id ids = AllByRecursion (IsOther id) ids
+
 -- The receipt stands after those that are recorded.
 abbrev pub StandsNext : ℕ → InFlight → List (List Command) → List Item → Type 0
 StandsNext width p records items = Stands width (records ++ p.receipt ∷ []) items
@@ -53,17 +57,17 @@ pub record KeepsOn (width : ℕ) (p : InFlight) (records : List (List Command)) 
 
 -- The link that the printer serves: other marks alone were put on it, and none was run; or the promise is kept by what comes.
 abbrev pub ServedFor : ℕ → InFlight → List (List Command) → Sheet → List ℕ → List ℕ → Type 0
-ServedFor width p records sheet half stream = UnreadOf (IsOther p.mark) half stream ⊎ KeepsOn width p records sheet half stream
+ServedFor width p records sheet half stream = UnreadOf (AreOther p.mark) half stream ⊎ KeepsOn width p records sheet half stream
 
 -- The links that were given up, and the live one. On those that the printer doesn't serve yet there are other marks alone.
 abbrev pub GivenUpFor : ℕ → InFlight → List (List Command) → Sheet → List ℕ → List (List ℕ) → Type 0
 GivenUpFor width p records sheet half [] = Unit {0}
 GivenUpFor width p records sheet half (bytes ∷ others) =
-    ((more : List ℕ) × ServedFor width p records sheet half (bytes ++ more)) × AllByRecursion (LateOf (IsOther p.mark)) others
+    ((more : List ℕ) × ServedFor width p records sheet half (bytes ++ more)) × AllByRecursion (LateOf (AreOther p.mark)) others
 
 abbrev pub NewestFor : ℕ → InFlight → List (List Command) → Sheet → List ℕ → List (List ℕ) → List ℕ → Type 0
 NewestFor width p records sheet half [] stream = ServedFor width p records sheet half stream
-NewestFor width p records sheet half (bytes ∷ others) stream = FreshOf (IsOther p.mark) stream
+NewestFor width p records sheet half (bytes ∷ others) stream = FreshOf (AreOther p.mark) stream
 
 abbrev pub LiveFor : ℕ → InFlight → List (List Command) → Sheet → List ℕ → List (List ℕ) → Option (List ℕ) → List ℕ → Type 0
 LiveFor width p records sheet half ended None out = Unit {0}

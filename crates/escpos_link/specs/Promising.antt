@@ -1,7 +1,8 @@
 -- The law of promises: the contract of the function `promise`.
-use Rattle.std.specs.Prelude.{ℕ, ◌≡◌, ◌≢◌, ◌<◌, ◌≤◌, List, [], ◌∷◌, ◌++◌}
+use Rattle.std.specs.Prelude.{ℕ, ◌≡◌, ◌≢◌, ◌+◌, ◌<◌, ◌≤◌, List, [], ◌∷◌, ◌++◌}
 use Rattle.escpos_command.specs.declared.command.Command.{Command}
-use Rattle.escpos_command.specs.Digits.{mark_count, mark_of}
+use Rattle.escpos_command.specs.Digits.{mark_count}
+use Rattle.escpos_host.specs.Counted.{id_of}
 use Rattle.escpos_host.specs.declared.host.HostEvent.TheVariants as heard
 use Rattle.escpos_host.specs.Machine.{HostView, InFlight, IsSound, Down, Open}
 use Rattle.escpos_link.specs.declared.event.Event.{Event}
@@ -18,16 +19,16 @@ use Rattle.escpos_link.specs.Wire.{WireView, given_up, line_of, with_link}
 
 -- The event puts out no mark with this id.
 abbrev pub PutsOther : Event → HostView → List ℕ → Type 0
-PutsOther event.LinkUp h id = mark_of h.next ≢ id
-PutsOther event.LinkUpReporting h id = mark_of h.next ≢ id
-PutsOther event.Nudge h id = mark_of h.next ≢ id
-PutsOther (event.Submit receipt) h id = mark_of h.next ≢ id
+PutsOther event.LinkUp h id = id_of h.next ≢ id
+PutsOther event.LinkUpReporting h id = id_of h.next ≢ id
+PutsOther event.Nudge h id = id_of h.next ≢ id
+PutsOther (event.Submit receipt) h id = id_of h.next ≢ id
 PutsOther _ h id = Unit {0}
 
 -- The line with other records, and nothing left.
 abbrev pub with_records : LineView → List (List Command) → LineView
 with_records l records = record {
-  host = record { phase = l.host.phase; out = l.host.out; half = l.host.half; next = l.host.next; records = records; left = [] };
+  host = record { phase = l.host.phase; out = l.host.out; half = l.host.half; next = l.host.next; heard = l.host.heard; records = records; left = [] };
   printer = l.printer;
   ended = l.ended;
   live = l.live;
@@ -38,7 +39,7 @@ with_records l records = record {
 -- receipt in flight; it stays after each event that puts out other marks and after each refusal, for any host that is off its
 -- link then, and after a link with nothing on it; a late answer to its mark shows that the receipt stands; and then, with no receipt in flight, it may be recorded.
 pub record Promising : Type 0 where
-  pub made : (l : LineView) (records : List (List Command)) (p : InFlight) (n : ℕ) → IsTrusted l → l.host.next ≤ n → n < mark_count → p.mark ≡ mark_of n → Promised records p l
+  pub made : (l : LineView) (records : List (List Command)) (p : InFlight) (n : ℕ) → IsTrusted l → l.host.next ≤ n → n < l.host.heard + mark_count → p.mark ≡ id_of n → Promised records p l
   pub in_flight : (l : LineView) (p : InFlight) → IsTrusted l → l.host.phase ≡ Open (p ∷ []) → Promised l.host.records p l
   pub stays : (e : Event) (l after : LineView) (n : Note) (records : List (List Command)) (p : InFlight) → IsFitting e → IsSound l.host → IsLine l → After e l n after
       → IsTrusted l → PutsOther e l.host p.mark → Promised records p l → Promised records p after

@@ -1,10 +1,9 @@
 -- A receipt that goes over a line on which nothing is under way and nothing goes wrong.
 use Rattle.std.specs.Prelude.{ℕ, ◌≡◌, ◌+◌, ◌<◌, ◌≤◌, ◌⊎◌, false, List, [], ◌∷◌, ◌++◌, length, Option, Some, None}
 use Rattle.escpos_command.specs.declared.command.Command.{Command}
-use Rattle.escpos_command.specs.Digits.{mark_count}
 use Rattle.escpos_paper.specs.Printed.{printed}
 use Rattle.escpos_printer.specs.Replies.{is_offline}
-use Rattle.escpos_host.specs.Machine.{Phase, Down, Open}
+use Rattle.escpos_host.specs.Machine.{Phase, Down, Open, mark_limit}
 use Rattle.escpos_link.specs.declared.event.Event.{Event}
 use Rattle.escpos_link.specs.declared.event.Event.TheVariants as event
 use Rattle.escpos_link.specs.Line.{LineView}
@@ -30,7 +29,7 @@ pub record IsSilent (l : LineView) : Type 0 where
 
 -- There are marks enough for a receipt.
 abbrev pub HasMarks : LineView → Type 0
-HasMarks l = l.host.next + marks_for l.host.phase ≤ mark_count
+HasMarks l = l.host.next + marks_for l.host.phase ≤ mark_limit l.host
 
 -- Nothing is under way, and there are marks enough for a receipt.
 pub record Undisturbed (l : LineView) : Type 0 where
@@ -63,6 +62,7 @@ pub record WentStraight (l : LineView) (receipt : List Command) (number : ℕ) (
   pub ready : after.host.phase ≡ Open []
   pub link : (after.ended ≡ []) × (after.live ≡ Some [])
   pub next : after.host.next ≡ l.host.next + marks_for l.host.phase
+  pub heard : after.host.heard ≡ after.host.next
   pub out : after.host.out ≡ []
   pub silent : IsSilent after
   pub happened : Happened l (straight_events l.host.phase receipt) after

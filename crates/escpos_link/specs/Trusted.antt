@@ -4,10 +4,11 @@
 --
 -- `Trusting`, at the end, is the law of the line: the contract of the function `trust`. It is for whoever takes a line from
 -- event to event; what a line's owner wants to know is `Stands`, which the law gives him.
-use Rattle.std.specs.Prelude.{ℕ, ◌≡◌, ◌≤◌, List, [], ◌∷◌, ◌++◌}
+use Rattle.std.specs.Prelude.{ℕ, ◌≡◌, ◌<◌, ◌≤◌, List, [], ◌∷◌, ◌++◌}
 use Rattle.escpos_command.specs.declared.command.Command.{Command}
 use Rattle.escpos_command.specs.declared.command.Command.TheVariants as kind
 use Rattle.escpos_command.specs.CommandTable.{AreCommands, IsCommand}
+use Rattle.escpos_host.specs.Counted.{id_of}
 use Rattle.escpos_command.specs.Marks.{marks}
 use Rattle.escpos_host.specs.Machine.{HostView, InFlight, IsSound, Phase, Open, handed_out}
 use Rattle.escpos_link.specs.declared.event.Event.{Event}
@@ -16,17 +17,22 @@ use Rattle.escpos_link.specs.declared.event.Note.{Note}
 use Rattle.escpos_link.specs.EventTable.{After, Leaves}
 use Rattle.escpos_link.specs.Line.{IsLine, LineView}
 use Rattle.escpos_link.specs.Promised.{PromisedIn}
-use Rattle.escpos_link.specs.Resumed.{resumed}
+use Rattle.escpos_link.specs.Resumed.{resumed, resumed_from}
 use Rattle.escpos_link.specs.Stands.{Stands}
 use Rattle.escpos_link.specs.Steps.{IsInTurn}
-use Rattle.escpos_link.specs.Ways.{IsKnown, OnWay}
+use Rattle.escpos_link.specs.Ways.{OnWay}
 use Rattle.escpos_link.specs.Wire.{WireView, line_of}
 
--- Each of these receipts is promised after those before it, which come after the records. Their closing marks have numbers
--- below the next one.
+-- The receipt's closing mark has a number below the next one. As long as it may be answered, the receipt is promised after these.
+pub record IsPromised (width : ℕ) (records : List (List Command)) (p : InFlight) (l : LineView) : Type 0 where
+  pub put : p.number < l.host.next
+  pub mark : p.mark ≡ id_of p.number
+  pub promise : l.host.heard ≤ p.number → PromisedIn width records p l
+
+-- Each of these receipts is promised after those before it, which come after the records.
 abbrev pub AllPromised : ℕ → List (List Command) → List InFlight → LineView → Type 0
 AllPromised width records [] l = Unit {0}
-AllPromised width records (p ∷ ps) l = IsKnown l.host.next p.mark × PromisedIn width records p l × AllPromised width (records ++ p.receipt ∷ []) ps l
+AllPromised width records (p ∷ ps) l = IsPromised width records p l × AllPromised width (records ++ p.receipt ∷ []) ps l
 
 -- The host may hear an answer to a mark of an older link, on this link or on the next one.
 abbrev pub IsNotOpen : Phase → Type 0
@@ -54,12 +60,14 @@ IsFitting (event.Ask n) = IsCommand (kind.Status n)
 IsFitting _ = Unit {0}
 
 -- The law of the line: where records can be trusted, they stand on the paper; they can still be trusted after any event and
--- after any refusal, if the host goes on with fewer records, and if a receipt that is left is taken; and the host hears no byte
--- that fits no answer.
+-- after any refusal, if the host goes on with fewer records, even if it doesn't know all that it had heard, and if a receipt
+-- that is left is taken; and the host hears no byte that fits no answer.
 pub record Trusting : Type 0 where
   pub stands : (l : LineView) → IsTrusted l → Stands l.printer.sheet.line_dots l.host.records l.printer.sheet.items
   pub kept : (e : Event) (l after : LineView) (n : Note) → IsFitting e → IsSound l.host → IsLine l → After e l n after → IsTrusted l → StillTrusted l after
   pub leaves : (e : Event) (l after : LineView) → IsSound l.host → IsLine l → Leaves e l after → IsTrusted l → StillTrusted l after
   pub in_turn : (e : Event) (l after : LineView) (n : Note) → IsLine l → IsTrusted l → After e l n after → IsInTurn n
   pub resumes : (l : LineView) (f count : ℕ) → l.host.next ≤ f → IsTrusted l → StillTrusted l (resumed l f count)
+  pub resumes_from : (l : LineView) (f count heard : ℕ) → l.host.next ≤ f → heard ≤ l.host.heard → IsTrusted l
+      → StillTrusted l (resumed_from l f count heard)
   pub taken : (h : HostView) (w : WireView) → IsTrusted (line_of h w) → StillTrusted (line_of h w) (line_of (handed_out h) w)

@@ -31,7 +31,7 @@ pub fn trust()
     escpos_command::laws::joined_readings();
     escpos_command::laws::resynchronisation();
     escpos_command::laws::reporting();
-    escpos_command::laws::mark_numbers();
+    escpos_host::laws::counted_marks();
     escpos_command::laws::answers();
     escpos_paper::laws::initialisation();
     escpos_paper::laws::paper_grows();
@@ -45,7 +45,7 @@ pub fn promise()
     escpos_command::laws::joined_readings();
     escpos_command::laws::resynchronisation();
     escpos_command::laws::reporting();
-    escpos_command::laws::mark_numbers();
+    escpos_host::laws::counted_marks();
     escpos_command::laws::answers();
     escpos_paper::laws::initialisation();
     escpos_paper::laws::paper_grows();
@@ -72,8 +72,8 @@ pub fn fitting()
 
 /// A new line: that of a host without records and a new wire is a line whose records can be trusted.
 pub fn new_line()
-    ensures { (h : HostView) (w : WireView) (first width : ℕ) → h ≡ record { phase = Down; out = []; half = []; next = first; records = []; left = [] }
-        → SheetIs width w.printer.sheet [] [] → w.printer.half ≡ [] → w.printer.waiting ≡ [] → w.ended ≡ [] → w.live ≡ None → w.coming ≡ []
+    ensures { (h : HostView) (w : WireView) (first heard width : ℕ) → heard ≤ first
+        → h ≡ record { phase = Down; out = []; half = []; next = first; heard = heard; records = []; left = [] } → SheetIs width w.printer.sheet [] [] → w.printer.half ≡ [] → w.printer.waiting ≡ [] → w.ended ≡ [] → w.live ≡ None → w.coming ≡ []
         → IsLine (line_of h w) × IsTrusted (line_of h w) }
 {}
 
@@ -124,7 +124,7 @@ pub fn idle_link()
 pub(crate) fn of_straight()
     ensures { Laws }
 {
-    escpos_command::laws::mark_numbers();
+    escpos_host::laws::counted_marks();
     escpos_command::laws::answers();
     escpos_paper::laws::initialisation();
     escpos_paper::laws::marks();

@@ -15,7 +15,7 @@ ghost use Rattle.escpos_link.specs.Resumed.{RefusesResume, resumed};
 
 use crate::event::{Event, Note, Refusal, Refused};
 use crate::wire::Wire;
-use escpos_command::{LineWidth, MarkId, StatusKind};
+use escpos_command::{LineWidth, StatusKind};
 use escpos_host::{Host, HostError, HostEvent, HostState, Receipt, laws};
 use escpos_printer::Condition;
 use std::alloc::{AllocError, Global};
@@ -51,7 +51,7 @@ impl Line {
         first_mark: u32,
         width: LineWidth,
     ) -> Result<Self, AllocError>
-        ensures host { IfOk result (λ line. line.host ≡ record { phase = Down; out = []; half = []; next = first_mark; records = []; left = [] }) }
+        ensures host { IfOk result (λ line. line.host ≡ record { phase = Down; out = []; half = []; next = first_mark; heard = first_mark; records = []; left = [] }) }
         ensures sheet { IfOk result (λ line. SheetIs width line.printer.sheet [] []) }
         ensures half { IfOk result (λ line. line.printer.half ≡ []) }
         ensures waiting { IfOk result (λ line. line.printer.waiting ≡ []) }
@@ -110,14 +110,11 @@ impl Line {
     fn has_marks(&self) -> bool
         ensures { IsTrue result ↔ HasMarks self.now }
     {
-        let others = match self.host.state() {
-            HostState::Down => 1,
-            _ => 0,
+        let marks = match self.host.state() {
+            HostState::Down => 2,
+            _ => 1,
         };
-        match self.host.next_mark().checked_add(others) {
-            Some(last) => MarkId::of_number(last).is_some(),
-            None => false,
-        }
+        marks <= self.host.marks_left()
     }
 
     /// Proof only: gives the caller this fact: the number of bytes on the live link is below `usize::MAX`.
@@ -284,10 +281,11 @@ impl Line {
                 receipt: None,
             });
         }
+        let oldest = self.host.oldest_mark();
         let host = replace(&mut self.host, Host::new(self.alloc, first_mark));
         let mut records = host.into_records();
         records.truncate(count);
-        self.host = Host::resume(self.alloc, first_mark, records);
+        self.host = Host::resume(self.alloc, first_mark, oldest, records);
         self.wire.hang_up();
         Ok(())
     }

@@ -73,7 +73,7 @@ impl Sim {
         first_mark: u32,
         width: LineWidth,
     ) -> Result<Self, AllocError>
-        ensures host { IfOk result (λ sim. sim.host ≡ record { phase = Down; out = []; half = []; next = first_mark; records = []; left = [] }) }
+        ensures host { IfOk result (λ sim. sim.host ≡ record { phase = Down; out = []; half = []; next = first_mark; heard = first_mark; records = []; left = [] }) }
         ensures sheet { IfOk result (λ sim. SheetIs width sim.printer.sheet [] []) }
         ensures half { IfOk result (λ sim. sim.printer.half ≡ []) }
         ensures waiting { IfOk result (λ sim. sim.printer.waiting ≡ []) }

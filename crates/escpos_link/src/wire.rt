@@ -16,7 +16,7 @@ ghost use Rattle.escpos_link.specs.Wire.{AfterOnWire, IsRefusedOnWire, fed_to, g
 
 use crate::event::{Handed, Note, Refusal, Refused};
 use crate::undelivered::Undelivered;
-use escpos_command::{LineWidth, MarkId};
+use escpos_command::LineWidth;
 use escpos_host::{Host, HostError, HostState};
 use escpos_paper::Item;
 use escpos_printer::{Condition, Fed, FeedStop, Printer};
@@ -104,7 +104,7 @@ impl Wire {
         ensures up { OnOk result ((host.old.phase ≡ Down) × HasMark host.old × (host.new ≡ linked_by reporting host.old) × (self.new ≡ with_link self.old)) }
         ensures refused { IfErr result (λ why. RefusesLinkUp why host.old × (host.new ≡ host.old) × (self.new ≡ self.old)) }
     {
-        let may = host.state() == HostState::Down && MarkId::of_number(host.next_mark()).is_some();
+        let may = host.state() == HostState::Down && host.marks_left() > 0;
         if may && self.ended.reserve(1).is_err() {
             return Err(HostError::Memory);
         }

@@ -28,9 +28,9 @@ use Rattle.sqlite.proofs.Callers.{IsPlain, command_of}
 use Rattle.escpos_store.specs.Failing.{Fails, SaysWhy}
 use Rattle.escpos_store.specs.Holds.{HasEntries, Holds, HoldsIn, StoreView}
 use Rattle.escpos_store.specs.Laws.{held_once}
-use Rattle.escpos_store.specs.Table.{IsReal, insert_text, ledger_schema, select_text}
-use Rattle.escpos_store.proofs.HoldsLemmas.{params_of}
-use Rattle.escpos_store.proofs.StatementLemmas.{insert_is, insert_plain, select_plain, select_unlisted, terms}
+use Rattle.escpos_store.specs.Table.{IsReal, insert_both_text, insert_text, ledger_schema, select_text}
+use Rattle.escpos_store.proofs.HoldsLemmas.{params_of, params_of_both}
+use Rattle.escpos_store.proofs.StatementLemmas.{both_terms, insert_both_is, insert_both_plain, insert_is, insert_plain, select_plain, select_unlisted, terms}
 
 -- A failure that isn't for memory, of a connection that was open, is for the disk, or the row is too large.
 for_disk : (old new : State) (too_big : Type 0) (e : Error) → IsTrue old.is_open → e ≢ SqliteFailure code.OutOfMemory → of_state.Fails old new too_big e → MoreFaults old.faults new.faults ⊎ too_big
@@ -110,6 +110,37 @@ pub insert_failing : (old new : State) (e : Entry) (params : Row) (id : Value) (
 insert_failing old new e params id (Ok count) ran is = tt
 insert_failing old new e params id (Err error) ran is = λ clean entries held next other.
     insert_fails old new entries e error held other (subst (λ (p : Row). Executes insert_text p old new (Err error)) (is entries next) (ran clean))
+
+-- ## INSERT of two rows
+
+insert_both_whole : IsWhole insert_both_text 10 (understood ledger_schema insert_both_text)
+unfolding understood everything
+insert_both_whole = (le_refl _, refl)
+
+insert_both_fails : (old new : State) (entries : List Entry) (e f : Entry) (error : Error) → Holds old entries → error ≢ SqliteFailure code.OutOfMemory
+    → Executes insert_both_text (params_of_both entries e f) old new (Err error) → Fails old (length entries) (e ∷ f ∷ []) new
+unfolding ExecutesIn
+insert_both_fails old new entries e f error held other (inl not) =
+    let has = ap (λ s. understood s insert_both_text) held.schema in
+    inl (not_run old new insert_both_text (params_of_both entries e f) error _ has insert_both_whole insert_both_plain held.is_open other not)
+insert_both_fails old new entries e f error held other (inr (c, it, ran)) =
+    let known : Ok c ≡ understood ledger_schema insert_both_text = sym it.is ∙ ap (λ s. understood s insert_both_text) held.schema in
+    let bare = subst IsPlain (sym known) insert_both_plain in
+    let command = ap command_of known ∙ insert_both_is in
+    let alone = rw (unshown c bare.0 0 (Values both_terms 6) command, bare.1, append-nil (params_of_both entries e f)) at ran in
+    elim alone [
+      | inl (inl misplaced, same) ↦ absurd (placed old 0 (Values both_terms 6) error (subst (λ k. IsMisplaced old k error) command misplaced))
+      | inl (inr (may, does), same) ↦ inr (c, it.is, Some error, does)
+      | inr fails ↦ elim (for_disk old new _ error held.is_open other fails) [ inl fault ↦ inl fault | inr big ↦ inr (c, it.is, None, big) ]
+    ]
+
+pub insert_both_failing : (old new : State) (e f : Entry) (params : Row) (id id' : Value) (r : Result ℕ Error) → (HasCleanDisk new → Executes insert_both_text params old new r)
+    → ((entries : List Entry) → id ≡ Int (pos (1 + length entries)) → id' ≡ Int (pos (2 + length entries)) → params ≡ params_of_both entries e f)
+    → IfErr r (λ error. HasCleanDisk new → (entries : List Entry) → Holds old entries → id ≡ Int (pos (1 + length entries)) → id' ≡ Int (pos (2 + length entries))
+    → error ≢ SqliteFailure code.OutOfMemory → Fails old (length entries) (e ∷ f ∷ []) new)
+insert_both_failing old new e f params id id' (Ok count) ran is = tt
+insert_both_failing old new e f params id id' (Err error) ran is = λ clean entries held next then_next other.
+    insert_both_fails old new entries e f error held other (subst (λ (p : Row). Executes insert_both_text p old new (Err error)) (is entries next then_next) (ran clean))
 
 -- ## SELECT
 

@@ -5,7 +5,7 @@ use Rattle.escpos_till.specs.declared.entry.Entry.{Entry}
 use Rattle.sqlite.specs.Tree.{Trees}
 use Rattle.sqlite.specs.Store.{Ghosts}
 use Rattle.sqlite.specs.Effect.{Database, IsDatabase}
-use Rattle.sqlite.specs.State.{State}
+use Rattle.sqlite.specs.State.{HasCleanDisk, State}
 use Rattle.sqlite.specs.Held.{Held, held_code, state}
 use Rattle.sqlite_catalog.specs.Listing.{IsSound}
 use Rattle.sqlite.specs.Recovery.{Image}
@@ -53,6 +53,10 @@ store_code {S} store = code_by (Held S × ℕ) (coded× (held_code store) coded_
 -- the store holds these entries
 abbrev pub HoldsIn : {S : Type 0} → Ghosts S → StoreView S → List Entry → Type 0
 HoldsIn g s entries = Holds (state g s.connection) entries × (s.count ≡ length entries)
+
+-- the disk has returned what was written
+abbrev pub IsClean : {S : Type 0} → Ghosts S → StoreView S → Type 0
+IsClean g s = HasCleanDisk (state g s.connection)
 
 -- ## What an open finds
 

@@ -25,6 +25,10 @@ create_text = codes "CREATE TABLE entry (id INTEGER PRIMARY KEY, kind INTEGER NO
 abbrev pub insert_text : List ℕ
 insert_text = codes "INSERT INTO entry (id, kind, number, next, content) VALUES (?1, ?2, ?3, ?4, ?5)"
 
+-- the statement that adds two rows, both or neither
+abbrev pub insert_both_text : List ℕ
+insert_both_text = codes "INSERT INTO entry (id, kind, number, next, content) VALUES (?1, ?2, ?3, ?4, ?5), (?6, ?7, ?8, ?9, ?10)"
+
 -- the query that gives the rows in order
 abbrev pub select_text : List ℕ
 select_text = codes "SELECT id, kind, number, next, content FROM entry ORDER BY id"

@@ -148,8 +148,8 @@ fn sends_to<N: Printers + Abort>(
 fn send_refused(rt: HostRuntime) {
     let (listener, address) = listens(&rt);
     let mut input = MemoryIn::new(S.0, 100);
-    let text = b"not recorded MarksUsedUp\nnext 1679616\n".as_slice();
-    let marks = (address, 1_679_615, 2);
+    let text = b"not recorded MarksUsedUp\nnext 4294967295\n".as_slice();
+    let marks = (address, 4_294_967_294, 2);
     sends_to(&rt, rt.alloc(), marks, &mut input, (text, Status::Refused));
     drop(listener);
     let mut input = MemoryIn::new(S.0, 100);
@@ -230,8 +230,8 @@ fn outcomes_of_a_receipt(rt: HostRuntime) {
         (
             (NEVER, NEVER),
             (
-                1_679_614,
-                "not recorded MarksUsedUp\nnext 1679616\n",
+                4_294_967_293,
+                "not recorded MarksUsedUp\nnext 4294967295\n",
                 Status::Refused,
             ),
         ),

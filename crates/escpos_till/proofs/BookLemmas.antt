@@ -1,6 +1,6 @@
 -- What one more entry does to the book of a list of entries.
 use Rattle.std.proofs.Common.{ℕ, zero, suc, ◌≡◌, ◌≢◌, ◌+◌, ◌-◌, ◌<◌, ◌≤◌, inl, inr, Some, None, List, [], ◌∷◌, ◌++◌, length, get_or, set, refl, sym, ◌∙◌, ap, subst, length-append, length-set, append-nil, arith}
-use Rattle.std.specs.Prelude.{MatchOption, Option, slice_get}
+use Rattle.std.specs.Prelude.{IfSome, MatchOption, Option, slice_get}
 use Rattle.std.proofs.lemmas.List.Elements.{filter_map-append}
 use Rattle.std.specs.Option.{SomeIff}
 use Rattle.std.proofs.lemmas.Option.{get_or_from_slice_get, same_Some, slice_get_read}
@@ -11,13 +11,15 @@ use Rattle.escpos_till.specs.declared.entry.Entry.TheVariants.{Queued, Tried, Re
 use Rattle.escpos_till.specs.declared.state.ReceiptState.{ReceiptState}
 use Rattle.escpos_till.specs.declared.state.ReceiptState.TheVariants as state
 use Rattle.escpos_till.specs.declared.keyed.Keyed.{Keyed}
-use Rattle.escpos_till.specs.Book.{HasContents, HasKeys, IsBookOf}
+use Rattle.escpos_till.specs.Book.{HasContents, HasKeys, IsBookOf, StandsAt}
 use Rattle.escpos_till.specs.Keyed.{ListsKey}
 use Rattle.escpos_till.specs.Entries.{HasKey, IsLedger, MayFollow, Waits, contents, recorded, state_of, states, taken, times_tried, waiting}
 use Rattle.escpos_till.specs.Entries.{states as states_of}
 use Rattle.escpos_till.specs.Delivers.{FirstWaits}
 use Rattle.escpos_till.specs.Tries.{tries, try_of}
-use Rattle.escpos_till.specs.States.{IsEnded, IsFirstWaiting, tries_in}
+use Rattle.escpos_till.specs.declared.waiting.WaitingReceipt.{WaitingReceipt}
+use Rattle.escpos_till.specs.Contents.{content_with}
+use Rattle.escpos_till.specs.States.{IsEnded, IsFirstBesides, IsFirstWaiting, tries_in}
 use Rattle.escpos_till.proofs.StateLemmas.{first_after_queued, first_after_tried, get-set, get-snoc}
 use Rattle.escpos_till.proofs.KeyLemmas.{keys_after_keyed, keys_after_plain, keys_as_before, last_key_after}
 use Rattle.escpos_till.proofs.EntryLemmas.{cancelled_states, count_states, first_of_states, length-states, no_more, next_after_cancelled, next_after_key, next_after_queued, next_after_raised, next_after_recorded, next_after_tried, recorded-count, recorded-same, recorded_states, states-get, states_after_key, states_after_queued, states_after_raised, tried_states, waiting_state, waits_by_state, within_states}
@@ -359,15 +361,76 @@ content_at [] k l = absurd (omega (arith, l))
 content_at (x ∷ xs) zero l = (x, refl)
 content_at (x ∷ xs) (suc k) l = content_at xs k (omega (arith, l))
 
-pub first_left : (s : Book) (es : List Entry) (tried : ℕ) (content : Content) → IsBookOf s es → slice_get s.states.items s.first_waiting ≡ Some (state.Waiting tried)
-    → slice_get s.contents.items s.first_waiting ≡ Some content → FirstWaits es (s.first_waiting + 1) content tried
-first_left s es tried content sums waits is =
-    let at : slice_get (states_of es) s.first_waiting ≡ Some (state.Waiting tried) = ap (λ ss. slice_get ss s.first_waiting) (sym sums.states) ∙ waits in
-    let inside : s.first_waiting < length (contents es) = omega (arith, get-within (states_of es) s.first_waiting (state.Waiting tried) at, length-states es) in
-    let found = content_at (contents es) s.first_waiting inside in
-    let same : Some found.0 ≡ Some content = sym (sums.contents.waiting s.first_waiting tried found.0 at found.1) ∙ is in
-    first_of_states es s.first_waiting tried content (found.1 ∙ same) at
-    (λ k t l h. sums.first_waiting.passed k (state.Waiting t) l (ap (λ ss. slice_get ss k) sums.states ∙ h))
+-- The content that is kept of a receipt that waits is the receipt's.
+kept_content : (s : Book) (es : List Entry) (place tried : ℕ) (content : Content) → IsBookOf s es → slice_get (states_of es) place ≡ Some (state.Waiting tried)
+    → slice_get s.contents.items place ≡ Some content → slice_get (contents es) place ≡ Some content
+kept_content s es place tried content sums at is =
+    let inside : place < length (contents es) = omega (arith, get-within (states_of es) place (state.Waiting tried) at, length-states es) in
+    let found = content_at (contents es) place inside in
+    found.1 ∙ sym (sums.contents.waiting place tried found.0 at found.1) ∙ is
+
+pub first_left : (s : Book) (es : List Entry) (place number tried : ℕ) (content : Content) → IsBookOf s es → place ≡ s.first_waiting → StandsAt s place number content tried
+    → FirstWaits es number content tried
+first_left s es place number tried content sums is stands =
+    let at : slice_get (states_of es) place ≡ Some (state.Waiting tried) = ap (λ ss. slice_get ss place) (sym sums.states) ∙ stands.waits in
+    subst (λ n. FirstWaits es n content tried) (sym stands.number_is) (first_of_states es place tried content (kept_content s es place tried content sums at stands.kept) at
+    (λ k t l h. sums.first_waiting.passed k (state.Waiting t) (omega (arith, l, is)) (ap (λ ss. slice_get ss k) sums.states ∙ h)))
+
+recorded_no_more : (ss : List ReceiptState) (i k place t : ℕ) → k ≡ i → i < length ss → slice_get (set ss i (state.Recorded place)) k ≡ Some (state.Waiting t) → ⊥
+recorded_no_more ss i k place t same inside h =
+    let bad : Some (state.Waiting t) ≡ Some (state.Recorded place) = sym h ∙ ap (slice_get (set ss i (state.Recorded place))) same ∙ get-here ss i (state.Recorded place) inside in
+    cc
+
+-- Once one receipt is recorded, the first that waits is the first of the others.
+pub besides : (s : Book) (es : List Entry) (n place number tried : ℕ) (content : Content) → IsBookOf s es → Waits es n → StandsAt s place number content tried → place ≢ n - 1
+    → ((k : ℕ) (x : ReceiptState) → k < place → k ≢ n - 1 → slice_get s.states.items k ≡ Some x → IsEnded x)
+    → FirstWaits (es ++ Recorded n ∷ []) number content tried × Waits (es ++ Recorded n ∷ []) number
+besides s es n place number tried content sums waits stands differ passed =
+    let r : ReceiptState = state.Recorded (length (recorded es)) in
+    let more : List Entry = es ++ Recorded n ∷ [] in
+    let now : states_of more ≡ set (states_of es) (n - 1) r = recorded_states es n waits in
+    let at : slice_get (states_of es) place ≡ Some (state.Waiting tried) = ap (λ ss. slice_get ss place) (sym sums.states) ∙ stands.waits in
+    let at_now : slice_get (states_of more) place ≡ Some (state.Waiting tried) = ap (λ ss. slice_get ss place) now ∙ get-other (states_of es) (n - 1) place r (state.Waiting tried) differ at in
+    let is : slice_get (contents more) place ≡ Some content = ap (λ cs. slice_get cs place) (contents-recorded es n) ∙ kept_content s es place tried content sums at stands.kept in
+    let back : number - 1 ≡ place = omega (arith, stands.number_is) in (
+      subst (λ m. FirstWaits more m content tried) (sym stands.number_is) (first_of_states more place tried content is at_now
+      (λ k t l h.
+          let set_so : slice_get (set (states_of es) (n - 1) r) k ≡ Some (state.Waiting t) = ap (λ ss. slice_get ss k) (sym now) ∙ h in
+          elim (get-set (states_of es) (n - 1) k r (state.Waiting t) set_so) [
+            | inl here ↦ absurd (let bad : state.Waiting t ≡ r = here.1 in cc)
+            | inr other ↦ passed k (state.Waiting t) l (λ same. recorded_no_more (states_of es) (n - 1) k (length (recorded es)) t same (within_states es n waits) set_so)
+                (ap (λ ss. slice_get ss k) sums.states ∙ other)
+          ])),
+      (waits_by_state more number tried (omega (arith, stands.number_is)) (ap (slice_get (states_of more)) back ∙ at_now)).0,
+    )
+
+pub stands_waits : (s : Book) (es : List Entry) (place number tried : ℕ) (content : Content) → IsBookOf s es → StandsAt s place number content tried → Waits es number
+stands_waits s es place number tried content book stands =
+    let back : number - 1 ≡ place = omega (arith, stands.number_is) in
+    (waits_by_state es number tried (omega (arith, stands.number_is)) (ap (slice_get (states es)) back ∙ ap (λ ss. slice_get ss place) (sym book.states) ∙ stands.waits)).0
+
+besides_at : (s : Book) (es : List Entry) (n at number tried : ℕ) (content : Content) → IsBookOf s es → IsFirstBesides s.states.items (n - 1) at → Waits es n → StandsAt s at number content tried
+    → FirstWaits (es ++ Recorded n ∷ []) number content tried × Waits (es ++ Recorded n ∷ []) number
+besides_at s es n at number tried content sums first waits stands =
+    besides s es n at number tried content sums waits stands (first.other (get-within s.states.items at (state.Waiting tried) stands.waits)) first.passed
+
+-- What is found at a place, as it is said of the first receipt that waits.
+pub first_found : (s : Book) (es : List Entry) (r : Option WaitingReceipt) → IsBookOf s es
+    → MatchOption r (length s.states.items ≤ s.first_waiting) (λ first. StandsAt s s.first_waiting first.number (content_with first.options first.content.now) first.tried)
+    → IfSome r (λ first. Waits es first.number)
+    × MatchOption r (waiting es ≡ []) (λ first. FirstWaits es first.number (content_with first.options first.content.now) first.tried)
+first_found s es None book past = (tt, none_left s es book past)
+first_found s es (Some first) book stands = (
+  stands_waits s es s.first_waiting first.number first.tried (content_with first.options first.content.now) book stands,
+  first_left s es s.first_waiting first.number first.tried (content_with first.options first.content.now) book refl stands,
+)
+
+-- And of the first of the others.
+pub others_found : (s : Book) (es : List Entry) (n at : ℕ) (r : Option WaitingReceipt) → IsBookOf s es → IsFirstBesides s.states.items (n - 1) at → Waits es n
+    → MatchOption r (length s.states.items ≤ at) (λ first. StandsAt s at first.number (content_with first.options first.content.now) first.tried)
+    → IfSome r (λ first. FirstWaits (es ++ Recorded n ∷ []) first.number (content_with first.options first.content.now) first.tried × Waits (es ++ Recorded n ∷ []) first.number)
+others_found s es n at None book first waits past = tt
+others_found s es n at (Some one) book first waits stands = besides_at s es n at one.number one.tried (content_with one.options one.content.now) book first waits stands
 
 pub within_contents : (s : Book) (es : List Entry) (n : ℕ) → IsBookOf s es → Waits es n → n - 1 < length s.contents.items
 within_contents s es n book waits = omega (arith, book.contents.count, within_states es n waits, length-states es)
@@ -378,11 +441,6 @@ contents_so s es book = omega (arith, book.contents.count, ap length book.states
 pub number_is : (made : Option ℕ) (n place : ℕ) → SomeIff made (0 < place + 1) (place + 1) → made ≡ Some n → n ≡ place + 1
 number_is None n place h is = absurd (let bad : None ≡ Some n = is in cc)
 number_is (Some m) n place h is = (let same : Some n ≡ Some m = sym is in cc) ∙ h.1
-
-pub first_waits : (s : Book) (es : List Entry) (tried : ℕ) → IsBookOf s es → slice_get s.states.items s.first_waiting ≡ Some (state.Waiting tried) → Waits es (s.first_waiting + 1)
-first_waits s es tried book waits =
-    let back : s.first_waiting + 1 - 1 ≡ s.first_waiting = omega arith in
-    (waits_by_state es (s.first_waiting + 1) tried (omega arith) (ap (slice_get (states es)) back ∙ ap (λ ss. slice_get ss s.first_waiting) (sym book.states) ∙ waits)).0
 
 -- ## Keys
 

@@ -1,6 +1,6 @@
 -- What a driver's turns do.
 use Rattle.std.proofs.Common.{ℕ, zero, suc, true, false, ◌==◌, ◌≡◌, ◌≢◌, ◌+◌, ◌*◌, ◌-◌, ◌<◌, ◌≤◌, ◌⊎◌, inl, inr, Option, Some, None, List, [], ◌∷◌, ◌++◌, length, take, drop, refl, sym, ◌∙◌, ap, subst, arith, length-append, length-drop}
-use Rattle.std.specs.Prelude.{Bool}
+use Rattle.std.specs.Prelude.{Bool, is_some}
 use Rattle.std.proofs.lemmas.List.{drop-drop, nil_from_length, take_all}
 use Rattle.escpos_command.specs.declared.command.Command.{Command}
 use Rattle.escpos_host.specs.declared.host.HostEvent.{HostEvent}
@@ -26,9 +26,11 @@ use Rattle.escpos_till.specs.declared.machine.Action.{Action}
 use Rattle.escpos_till.specs.declared.machine.Action.TheVariants as action
 use Rattle.escpos_till.specs.declared.pause.Pause.{Pause}
 use Rattle.escpos_till.specs.declared.store.StoreFault.{StoreFault}
-use Rattle.escpos_till.specs.Driver.{Breaks, Deed, DidAll, Ends, Gives, HangsUp, HearsAll, IsGiven, IsSaid, IsTelling, IsTold, Keeps, Learns, Links, Loses, Misses, Pauses, Puts, RanQuietly, RanUpTo, SaysNothing, Tells, TellsNothing, Turns}
+use Rattle.escpos_till.specs.Driver.{Breaks, Confirms, Deed, DidAll, Ends, Gives, HangsUp, HearsAll, IsGiven, IsSaid, IsTelling, IsTold, Keeps, KeepsOne, Learns, MayGoWith, Links, Loses, Misses, Pauses, Puts, RanQuietly, RanUpTo, SaysNothing, Tells, TellsNothing, Turns}
+use Rattle.escpos_till.specs.declared.further.Further.{Further}
+use Rattle.escpos_till.specs.Further.{GoesFurther}
 use Rattle.escpos_till.specs.Learning.{Learned, Revises}
-use Rattle.escpos_till.specs.Machine.{Asks, AsksIn, PutsFirst, Came, Ended, EndsFinally, Follows, IsFinal, news_in, news_of, told, GoesOn, HearsOne, Kept, MachineView, Opens, Rests, Submits, Turns as Turned, Unsure, connected, ended_by, first_talk, hung_up, lost, not_connected, printed, put, with_left, with_pause, with_sent}
+use Rattle.escpos_till.specs.Machine.{Asks, AsksIn, PutsFirst, Came, Ended, EndsFinally, Follows, IsFinal, news_in, news_of, told, GoesOn, HearsOne, Kept, MachineView, Opens, Rests, Submits, Turns as Turned, Unsure, connected, after_note, ended_by, entry_with, first_talk, hung_up, lost, next_talk, not_connected, pause_news, printed, put, with_left, with_pause, with_sent}
 
 -- 1 while a machine talks.
 abbrev pub is_talking : Stage → ℕ
@@ -79,7 +81,7 @@ taken_or_ended count e s (inr bad) ends = inr (ends bad)
 -- Of some bytes at least one is taken, or the machine talks no more.
 pub came_moves : (s : Stage) (bytes : List ℕ) (count : ℕ) (m after : MachineView) (talk : Talk) → s ≡ stage.Talking talk → 0 < length bytes → Came s bytes count m after
     → (0 < count) ⊎ (is_talking after.stage ≡ 0)
-came_moves (stage.Talking t) bytes count m after talk is some (e, h, hears, turned, book) =
+came_moves (stage.Talking t) bytes count m after talk is some (e, h, hears, turned, book, all) =
     taken_or_ended count e after.stage (hears_by_phase m.host.phase m.host bytes count e h refl some hears) (λ bad. bad_ends m.book e t (t.left - count) h after.host after.stage bad turned)
 came_moves stage.AtRest bytes count m after talk is some so = absurd (let bad : stage.AtRest ≡ stage.Talking talk = is in cc)
 came_moves (stage.Connecting due) bytes count m after talk is some so = absurd (let bad : stage.Connecting due ≡ stage.Talking talk = is in cc)
@@ -159,6 +161,9 @@ follows_not then.Raised before first b h s (same, is) = not_at s (stage.Telling 
 follows_not (then.Cancelled number tried) before first b h s (same, is) = not_at s (stage.Telling (note.Cancelled number tried)) is (λ h. h)
 follows_not (then.Send due) before first b h s opens = opens_not due first h s opens
 follows_not (then.Recorded number) before first b h s (drops, is) = not_at s (stage.HangingUp (note.Recorded number)) is (λ h. h)
+follows_not (then.GoOn number tried due) before first b h s (same, is) = not_at s (stage.Keeping tried (then.SendNext number due)) is (λ h. h)
+follows_not (then.SendNext number due) before first b h s (inl (sends, is)) = not_at s (stage.Talking (next_talk number due)) is (λ h. h)
+follows_not (then.SendNext number due) before first b h s (inr (why, refuses, drops, is)) = not_at s (stage.HangingUp (note.Recorded number)) is (λ h. h)
 
 lost_not : (next : Then) (why : StoreFault) → Rests (lost next why) → ⊥
 lost_not then.Queued why h = h
@@ -167,6 +172,8 @@ lost_not then.Raised why h = h
 lost_not (then.Cancelled number tried) why h = h
 lost_not (then.Send due) why h = h
 lost_not (then.Recorded number) why h = h
+lost_not (then.GoOn number tried due) why h = h
+lost_not (then.SendNext number due) why h = h
 
 kept_not : (s : Stage) (e : Entry) (next : Then) (m after : MachineView) → s ≡ stage.Keeping e next → Kept s m after → Rests after.stage → ⊥
 kept_not s e next m after is kept = follows_not next m.host m.book.next after.book after.host after.stage (subst (λ at. Kept at m after) is kept).1
@@ -174,12 +181,19 @@ kept_not s e next m after is kept = follows_not next m.host m.book.next after.bo
 unsure_not : (s : Stage) (e : Entry) (next : Then) (why : StoreFault) (m after : MachineView) → s ≡ stage.Keeping e next → Unsure s why m after → Rests after.stage → ⊥
 unsure_not s e next why m after is unsure = not_at after.stage (lost next why) (subst (λ at. Unsure at why m after) is unsure).2 (lost_not next why)
 
+recorded_not : (b : Book) (n : ℕ) (further : Option Further) (before : HostView) (s : Stage) → (s ≡ printed n) ⊎ GoesFurther b n further before s → Rests s → ⊥
+recorded_not b n further before s (inl is) = not_at s (printed n) is (λ h. h)
+recorded_not b n further before s (inr goes) = not_at s (stage.Keeping (entry.Recorded n) (then.GoOn n (entry.Tried goes.due.number (b.next + 1)) goes.due)) goes.stage_is (λ h. h)
+
 revised_not : (next : Then) (b : Book) (before h : HostView) (s : Stage) → Revises next b before h s → Rests s → ⊥
 revised_not (then.Send due) b before h s (inl (waits, marks, same, is)) = not_at s (stage.Keeping (entry.Tried due.number (b.next + marks_taken due.openings)) (then.Send due)) is (λ h. h)
-revised_not (then.Send due) b before h s (inr (inl (none, drops, is))) = not_at s (stage.HangingUp (note.Waiting due.number (fault.Refused error.MarksUsedUp))) is (λ h. h)
+revised_not (then.Send due) b before h s (inr (inl (waits, none, drops, is))) = not_at s (stage.HangingUp (note.Waiting due.number (fault.Refused error.MarksUsedUp))) is (λ h. h)
 revised_not (then.Send due) b before h s (inr (inr (tried, cancelled, drops, is))) = not_at s (stage.HangingUp (note.Cancelled due.number tried)) is (λ h. h)
 revised_not (then.Recorded n) b before h s (inl (waits, same, is)) = not_at s (printed n) is (λ h. h)
 revised_not (then.Recorded n) b before h s (inr (tried, cancelled, drops, is)) = not_at s (stage.HangingUp (note.Cancelled n tried)) is (λ h. h)
+revised_not (then.GoOn n tried due) b before h s (inl (waits, same, goes)) = recorded_not b n due.further before s goes
+revised_not (then.GoOn n tried due) b before h s (inr (times, cancelled, drops, is)) = not_at s (stage.HangingUp (note.Cancelled n times)) is (λ h. h)
+revised_not (then.SendNext n due) b before h s (drops, is) = not_at s (stage.HangingUp (note.Recorded n)) is (λ h. h)
 revised_not then.Queued b before h s none = absurd none
 revised_not (then.Take content) b before h s none = absurd none
 revised_not then.Raised b before h s none = absurd none
@@ -212,12 +226,12 @@ turned_not b (event.Condition block) talk left before h s (p, after, goes) = on_
 turned_not b (event.Late id) talk left before h s (inl (closes, same, is)) = not_at s (printed talk.number) is (λ h. h)
 turned_not b (event.Late id) talk left before h s (inr (other, goes)) = on_not talk left before h s goes
 turned_not b event.Opened talk left before h s goes = submits_not talk talk.receipt left before h s goes
-turned_not b (event.Recorded place) talk left before h s (same, is) = not_at s (stage.Keeping (entry.Recorded talk.number) (then.Recorded talk.number)) is (λ h. h)
+turned_not b (event.Recorded place) talk left before h s (same, goes) = recorded_not b talk.number talk.further before s goes
 turned_not b (event.BadAnswer place) talk left before h s (drops, is) = not_at s (stage.HangingUp (note.Waiting talk.number fault.BadAnswer)) is (λ h. h)
 
 came_not : (s : Stage) (talk : Talk) (bytes : List ℕ) (count : ℕ) (m after : MachineView) → s ≡ stage.Talking talk → Came s bytes count m after → Rests after.stage → ⊥
 came_not s talk bytes count m after is came =
-    let (e, h, hears, turned, book) = subst (λ at. Came at bytes count m after) is came in
+    let (e, h, hears, turned, book, all) = subst (λ at. Came at bytes count m after) is came in
     turned_not m.book e talk (talk.left - count) h after.host after.stage turned
 
 hears_not : (m : MachineView) (bytes counts : List ℕ) (after : MachineView) → (Rests m.stage → ⊥) → HearsAll m bytes counts after → Rests after.stage → ⊥
@@ -231,8 +245,9 @@ given_not m talk (b ∷ bs) after is (counts, hears) = hears_not m (b ∷ bs) co
 
 -- A machine that has done what it asked for, but hasn't told its owner, asks for more.
 pub goes_on : (m : MachineView) (d : Deed) (after : MachineView) → (IsTold d → ⊥) → Turns m d after → Rests after.stage → ⊥
-goes_on m (Keeps e) after never (next, is, kept) = kept_not m.stage e next m after is kept
-goes_on m (Loses e why) after never (next, is, unsure) = unsure_not m.stage e next why m after is unsure
+goes_on m (Keeps e None) after never (next, is, kept) = kept_not m.stage e next m after is kept
+goes_on m (Keeps e (Some f)) after never (mid, first, was, with, first_kept, sound, (next, is, kept)) = kept_not mid.stage f next mid after is kept
+goes_on m (Loses e and_then why) after never (next, is, goes, unsure) = unsure_not m.stage e next why m after is unsure
 goes_on m (Learns others) after never (e, next, is, learned) = learned_not m.stage e next others m after is learned
 goes_on m Links after never (due, is, done) =
     λ rests. subst (λ (k : MachineView). Rests k.stage) (done ∙ ap (λ s. connected s m) is) rests
@@ -247,13 +262,16 @@ goes_on m HangsUp after never (n, is, done) =
     λ rests. subst (λ (k : MachineView). Rests k.stage) (done ∙ ap (λ s. hung_up s m) is) rests
 goes_on m (Pauses number why) after never (talk, is, news, done) =
     λ rests. subst (λ (k : MachineView). Rests k.stage) (done ∙ ap (λ s. told s m) is) rests
+goes_on m (Confirms number) after never (talk, is, recorded, done) =
+    λ rests. subst (λ (k : MachineView). Rests k.stage) (done ∙ ap (λ s. told s m) is) rests
 goes_on m (Tells n) after never turns = absurd (never tt)
 
 -- A deed by which nothing is said tells nothing.
 pub not_told : (d : Deed) → (IsSaid d → ⊥) → IsTold d → ⊥
 not_told (Tells n) never told = never tt
-not_told (Keeps e) never told = told
-not_told (Loses e why) never told = told
+not_told (Keeps e and_then) never told = told
+not_told (Loses e and_then why) never told = told
+not_told (Confirms number) never told = told
 not_told (Learns others) never told = told
 not_told Links never told = told
 not_told Misses never told = told
@@ -306,6 +324,17 @@ ran_more did m old mid between count d after new (ran, silent) never turns sound
   silent_more ran.run.deeds d silent never,
 )
 
+rests_after : (n : TillNote) → Rests (after_note n)
+rests_after (note.Queued number) = tt
+rests_after note.Raised = tt
+rests_after (note.Cancelled number tried) = tt
+rests_after (note.Recorded number) = tt
+rests_after (note.NoLink number) = tt
+rests_after (note.Waiting number why) = tt
+rests_after (note.Paused number why) = tt
+rests_after (note.StillPaused number why) = tt
+rests_after (note.NotKept why) = tt
+
 -- At the end its owner is told, and of what came of no call before.
 pub ran_to : {D : Type 0} (did : D → Deed → D → Type 0) (m : MachineView) (old : D) (mid : MachineView) (between : D) (count : ℕ) (d : Deed) (n : TillNote) (most left : ℕ) (after : MachineView) (new : D)
     → RanQuietly did m old mid between count → count + 1 + left ≡ most → IsTelling d n → Turns mid d after → IsSound after.host → did between d new → RanUpTo did m old n most left after new
@@ -322,11 +351,26 @@ ran_to {D} did m old mid between count (Tells x) n most left after new (ran, sil
         },
         silent,
         counts,
+        subst (λ (k : MachineView). Rests k.stage) (sym (turns.1 ∙ ap (λ s. told s mid) turns.0)) (rests_after x),
       ),
     )
+ran_to did m old mid between count (Confirms number) n most left after new (ran, silent) all is turns sound done =
+    let counts : length ran.run.deeds + 1 + left ≡ most = ap (λ k. k + 1 + left) ran.turns ∙ all in
+    inr (inr (
+      record {
+        before = ran.run.deeds;
+        number = number;
+        note_is = sym is;
+        did_all = did_more did m old ran.run.deeds mid between (Confirms number) after new ran.run.did_all turns sound done;
+        turns = omega (arith, counts);
+        quiet = silent;
+        goes_on = goes_on mid (Confirms number) after (λ never. never) turns;
+      },
+      counts,
+    ))
 ran_to did m old mid between count (Pauses number why) n most left after new (ran, silent) all is turns sound done =
     let counts : length ran.run.deeds + 1 + left ≡ most = ap (λ k. k + 1 + left) ran.turns ∙ all in
-    inr (
+    inr (inl (
       record {
         before = ran.run.deeds;
         number = number;
@@ -338,9 +382,9 @@ ran_to did m old mid between count (Pauses number why) n most left after new (ra
         goes_on = goes_on mid (Pauses number why) after (λ never. never) turns;
       },
       counts,
-    )
-ran_to did m old mid between count (Keeps e) n most left after new ran all is turns sound done = absurd is
-ran_to did m old mid between count (Loses e why) n most left after new ran all is turns sound done = absurd is
+    ))
+ran_to did m old mid between count (Keeps e and_then) n most left after new ran all is turns sound done = absurd is
+ran_to did m old mid between count (Loses e and_then why) n most left after new ran all is turns sound done = absurd is
 ran_to did m old mid between count (Learns others) n most left after new ran all is turns sound done = absurd is
 ran_to did m old mid between count Links n most left after new ran all is turns sound done = absurd is
 ran_to did m old mid between count Misses n most left after new ran all is turns sound done = absurd is
@@ -381,30 +425,38 @@ asked_to_keep m stage.Failed a asks is = absurd (subst IsAppend asks is)
 same_note : (x n : TillNote) → action.Tell x ≡ action.Tell n → x ≡ n
 same_note x n is = cc is
 
-is_pause : (number : ℕ) (why : Option Pause) (is_news : Bool) (n : TillNote) → news_in number why is_news ≡ Some n → (p : Pause) × (n ≡ note.Paused number p)
+is_pause : (number : ℕ) (why : Option Pause) (is_news : Bool) (n : TillNote) → pause_news number why is_news ≡ Some n → (p : Pause) × (n ≡ note.Paused number p)
 is_pause number (Some p) true n is = (p, cc is)
 is_pause number (Some p) false n is = absurd (let bad : None ≡ Some n = is in cc)
 is_pause number None is_news n is = absurd (let bad : None ≡ Some n = is in cc)
 
-told_in : (Done : Deed → Type 0) → ((number : ℕ) (why : Pause) → Done (Pauses number why)) → (talk : Talk) (m after : MachineView) (n : TillNote) (news : Option TillNote) → m.stage ≡ stage.Talking talk → news_of talk ≡ news → AsksIn m.host news talk.left (action.Tell n)
-    → after ≡ told m.stage m → (d : Deed) × IsTelling d n × Turns m d after × Done d
-told_in Done pauses talk m after n None is none asks done = absurd asks
-told_in Done pauses talk m after n (Some x) is some asks done =
-    let same : x ≡ n = same_note x n (sym asks) in
-    let (p, paused) = is_pause talk.number talk.paused.why talk.paused.is_news n (some ∙ ap Some same) in
-    (Pauses talk.number p, sym paused, (talk, is, some ∙ ap Some (same ∙ paused), done), pauses talk.number p)
+news_deed : (Done : Deed → Type 0) → ((number : ℕ) (why : Pause) → Done (Pauses number why)) → ((number : ℕ) → Done (Confirms number)) → (talk : Talk) (recorded : Option ℕ) (m after : MachineView) (n : TillNote)
+    → m.stage ≡ stage.Talking talk → talk.recorded ≡ recorded → news_of talk ≡ Some n → news_in recorded talk.number talk.paused.why talk.paused.is_news ≡ Some n → after ≡ told m.stage m
+    → (d : Deed) × IsTelling d n × Turns m d after × Done d
+news_deed Done pauses confirms talk (Some r) m after n is recorded some news done = (Confirms r, (let same : note.Recorded r ≡ n = cc news in same), (talk, is, recorded, done), confirms r)
+news_deed Done pauses confirms talk None m after n is recorded some news done =
+    let (p, paused) = is_pause talk.number talk.paused.why talk.paused.is_news n news in
+    (Pauses talk.number p, sym paused, (talk, is, some ∙ ap Some paused, done), pauses talk.number p)
 
--- What a machine has to tell is told by a deed: what came of a call, or a pause.
-pub asked_to_tell : (Done : Deed → Type 0) → ((x : TillNote) → Done (Tells x)) → ((number : ℕ) (why : Pause) → Done (Pauses number why)) → (s : Stage) (m after : MachineView) (n : TillNote)
+told_in : (Done : Deed → Type 0) → ((number : ℕ) (why : Pause) → Done (Pauses number why)) → ((number : ℕ) → Done (Confirms number)) → (talk : Talk) (m after : MachineView) (n : TillNote) (news : Option TillNote) → m.stage ≡ stage.Talking talk → news_of talk ≡ news → AsksIn m.host news talk.left (action.Tell n)
+    → after ≡ told m.stage m → (d : Deed) × IsTelling d n × Turns m d after × Done d
+told_in Done pauses confirms talk m after n None is none asks done = absurd asks
+told_in Done pauses confirms talk m after n (Some x) is some asks done =
+    let same : x ≡ n = same_note x n (sym asks) in
+    let news : news_of talk ≡ Some n = some ∙ ap Some same in
+    news_deed Done pauses confirms talk talk.recorded m after n is refl news news done
+
+-- What a machine has to tell is told by a deed: what came of a call, or news of a talk.
+pub asked_to_tell : (Done : Deed → Type 0) → ((x : TillNote) → Done (Tells x)) → ((number : ℕ) (why : Pause) → Done (Pauses number why)) → ((number : ℕ) → Done (Confirms number)) → (s : Stage) (m after : MachineView) (n : TillNote)
     → m.stage ≡ s → Asks m s (action.Tell n) → EndsFinally s → after ≡ told s m → (d : Deed) × IsTelling d n × Turns m d after × Done d
-asked_to_tell Done tells pauses (stage.Telling x) m after n is asks final done =
+asked_to_tell Done tells pauses confirms (stage.Telling x) m after n is asks final done =
     (Tells x, (same_note x n (sym asks), final), (is, done ∙ ap (λ s. told s m) (sym is)), tells x)
-asked_to_tell Done tells pauses (stage.Talking talk) m after n is asks final done = told_in Done pauses talk m after n (news_of talk) is refl asks (done ∙ ap (λ s. told s m) (sym is))
-asked_to_tell Done tells pauses stage.AtRest m after n is asks final done = absurd (let bad : action.Tell n ≡ action.Nothing = asks in cc)
-asked_to_tell Done tells pauses (stage.Connecting due) m after n is asks final done = absurd (let bad : action.Tell n ≡ action.Connect = asks in cc)
-asked_to_tell Done tells pauses (stage.Keeping e next) m after n is asks final done = absurd asks
-asked_to_tell Done tells pauses (stage.HangingUp x) m after n is asks final done = absurd (let bad : action.Tell n ≡ action.HangUp = asks in cc)
-asked_to_tell Done tells pauses stage.Failed m after n is asks final done = absurd (let bad : action.Tell n ≡ action.Nothing = asks in cc)
+asked_to_tell Done tells pauses confirms (stage.Talking talk) m after n is asks final done = told_in Done pauses confirms talk m after n (news_of talk) is refl asks (done ∙ ap (λ s. told s m) (sym is))
+asked_to_tell Done tells pauses confirms stage.AtRest m after n is asks final done = absurd (let bad : action.Tell n ≡ action.Nothing = asks in cc)
+asked_to_tell Done tells pauses confirms (stage.Connecting due) m after n is asks final done = absurd (let bad : action.Tell n ≡ action.Connect = asks in cc)
+asked_to_tell Done tells pauses confirms (stage.Keeping e next) m after n is asks final done = absurd asks
+asked_to_tell Done tells pauses confirms (stage.HangingUp x) m after n is asks final done = absurd (let bad : action.Tell n ≡ action.HangUp = asks in cc)
+asked_to_tell Done tells pauses confirms stage.Failed m after n is asks final done = absurd (let bad : action.Tell n ≡ action.Nothing = asks in cc)
 
 -- Of what may be done, one less may be done now.
 pub one_less : (left most : ℕ) → 0 < left → left ≤ most → (most - left) + 1 ≡ most - (left - 1)
@@ -419,3 +471,30 @@ pub all_done : {D : Type 0} (did : D → Deed → D → Type 0) (m : MachineView
 all_done did m old after new count most ran fewer more =
     let same : count ≡ most = omega (arith, fewer, more) in
     subst (λ n. RanQuietly did m old after new n) same ran
+
+-- Where an entry is kept, the machine was to keep it.
+pub keeps_at : (m after : MachineView) (e : Entry) (and_then : Option Entry) → KeepsOne m e after and_then → (next : Then) × (m.stage ≡ stage.Keeping e next)
+keeps_at m after e None (next, is, kept) = (next, is)
+keeps_at m after e (Some f) (mid, next, is, with, kept, sound, last) = (next, is)
+
+-- What is kept with an entry is what may be.
+pub may_go : (with : Option Entry) (next : Then) → entry_with next ≡ with → MayGoWith with next
+may_go None next is = tt
+may_go (Some f) next is = is
+
+no_with : {X : Type 0} (b : Bool) → b ≡ false → b ≡ true → X
+no_with b none some = absurd (let bad : false ≡ true = sym none ∙ some in cc)
+
+-- Both entries are kept, one after the other.
+pub kept_both : (m mid after : MachineView) (e : Entry) (next : Then) → m.stage ≡ stage.Keeping e next → is_some (entry_with next) ≡ true → Kept m.stage m mid → IsSound mid.host → Kept mid.stage mid after
+    → KeepsOne m e after (entry_with next)
+kept_both m mid after e (then.GoOn number tried due) is some kept sound last =
+    let follows = (subst (λ s. Kept s m mid) is kept).1 in
+    (mid, then.GoOn number tried due, is, refl, kept, sound, (then.SendNext number due, follows.1, last))
+kept_both m mid after e then.Queued is some kept sound last = no_with false refl some
+kept_both m mid after e (then.Take content) is some kept sound last = no_with false refl some
+kept_both m mid after e then.Raised is some kept sound last = no_with false refl some
+kept_both m mid after e (then.Cancelled number tried) is some kept sound last = no_with false refl some
+kept_both m mid after e (then.Send due) is some kept sound last = no_with false refl some
+kept_both m mid after e (then.Recorded number) is some kept sound last = no_with false refl some
+kept_both m mid after e (then.SendNext number due) is some kept sound last = no_with false refl some

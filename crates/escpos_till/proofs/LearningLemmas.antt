@@ -14,15 +14,17 @@ use Rattle.escpos_till.specs.declared.machine.Due.{Due}
 use Rattle.escpos_till.specs.declared.machine.Stage.{Stage}
 use Rattle.escpos_till.specs.declared.machine.Then.{Then}
 use Rattle.escpos_till.specs.declared.machine.Then.TheVariants as then
+use Rattle.std.specs.Prelude.{Result, Ok, Err, IfErr, OnOk}
+use Rattle.escpos_till.specs.declared.store.StoreFault.{StoreFault}
 use Rattle.escpos_till.specs.declared.state.ReceiptState.{ReceiptState}
 use Rattle.escpos_till.specs.declared.state.ReceiptState.TheVariants as state
 use Rattle.escpos_till.specs.Book.{HasTryRoom, IsBookOf}
-use Rattle.escpos_till.specs.Delivers.{marks_taken}
+use Rattle.escpos_till.specs.Delivers.{marks_taken, most_entries}
 use Rattle.escpos_till.specs.Entries.{IsLedger, MayFollow, Waits, cancel_place_of, content_of, contents, is_try_of, place_of, record_of, recorded, state_by, state_of, taken, times_tried}
 use Rattle.escpos_till.specs.Learning.{AreOthers, FollowAll, IsOthers, Revises, StandsIn, WaitsOrCancelled}
-use Rattle.escpos_till.specs.Machine.{Fits, Suits, most_entries}
+use Rattle.escpos_till.specs.Machine.{Fits, Suits}
 use Rattle.escpos_till.proofs.EntryLemmas.{is_other, ledger-snoc, length-taken, one_longer, state_waits}
-use Rattle.escpos_till.proofs.MachineLemmas.{fits_printed}
+use Rattle.escpos_till.proofs.MachineLemmas.{fits_printed, fits_recorded}
 
 -- ## Each of a list
 
@@ -126,11 +128,21 @@ waits_to_follow es (Tried m next) (then.Recorded k) n follows suits is = absurd 
 waits_to_follow es (Raised next) (then.Recorded k) n follows suits is = absurd suits
 waits_to_follow es (Cancelled m) (then.Recorded k) n follows suits is = absurd suits
 waits_to_follow es (entry.Key key) (then.Recorded k) n follows suits is = absurd suits
+waits_to_follow es e (then.GoOn m tried due) n follows suits is = absurd (let bad : then.GoOn m tried due ≡ then.Recorded n = is in cc)
+waits_to_follow es e (then.SendNext m due) n follows suits is = absurd (let bad : then.SendNext m due ≡ then.Recorded n = is in cc)
 waits_to_follow es e (then.Send due) n follows suits is = absurd (let bad : then.Send due ≡ then.Recorded n = is in cc)
 waits_to_follow es e then.Queued n follows suits is = absurd (let bad : then.Queued ≡ then.Recorded n = is in cc)
 waits_to_follow es e (then.Take content) n follows suits is = absurd (let bad : then.Take content ≡ then.Recorded n = is in cc)
 waits_to_follow es e then.Raised n follows suits is = absurd (let bad : then.Raised ≡ then.Recorded n = is in cc)
 waits_to_follow es e (then.Cancelled m tried) n follows suits is = absurd (let bad : then.Cancelled m tried ≡ then.Recorded n = is in cc)
+
+going_to_follow : (es : List Entry) (e : Entry) (n : ℕ) (tried : Entry) (due : Due) → MayFollow es e → Suits (then.GoOn n tried due) e → Waits es n × (0 < times_tried es n)
+going_to_follow es (Recorded m) n tried due follows (same, this) = subst (λ v. Waits es v × (0 < times_tried es v)) same follows
+going_to_follow es (Queued content) n tried due follows suits = absurd suits
+going_to_follow es (Tried m next) n tried due follows suits = absurd suits
+going_to_follow es (Raised next) n tried due follows suits = absurd suits
+going_to_follow es (Cancelled m) n tried due follows suits = absurd suits
+going_to_follow es (entry.Key key) n tried due follows suits = absurd suits
 
 waits_to_send : (es : List Entry) (e : Entry) (due : Due) → MayFollow es e → Suits (then.Send due) e → Waits es due.number
 waits_to_send es (Tried m next) due follows suits = subst (Waits es) suits follows.0
@@ -146,6 +158,8 @@ pub stands_then : (b' : Book) (es others : List Entry) (e : Entry) (next : Then)
 stands_then b' es others e (then.Send due) book all follows suits = stands_after b' es others due.number book all (waits_to_send es e due follows suits)
 stands_then b' es others e (then.Recorded n) book all follows suits =
     stands_after b' es others n book all (waits_to_follow es e (then.Recorded n) n follows suits refl).0
+stands_then b' es others e (then.GoOn n tried due) book all follows suits = stands_after b' es others n book all (going_to_follow es e n tried due follows suits).0
+stands_then b' es others e (then.SendNext n due) book all follows suits = tt
 stands_then b' es others e then.Queued book all follows suits = tt
 stands_then b' es others e (then.Take content) book all follows suits = tt
 stands_then b' es others e then.Raised book all follows suits = tt
@@ -161,15 +175,21 @@ fits_revised b es others e (then.Send due) before h s book all follows suits few
       few,
       (λ content bad. absurd (let no : entry.Tried due.number (b.next + marks_taken due.openings) ≡ entry.Queued content = bad in cc)),
       (λ number last same. room),
-      λ content bad. absurd (let no : then.Send due ≡ then.Take content = bad in cc),
+      (λ content bad. absurd (let no : then.Send due ≡ then.Take content = bad in cc)),
+      tt,
     )
-fits_revised b es others e (then.Send due) before h s book all follows suits few room (inr (inl (none, drops, is))) = subst (Fits b (es ++ others)) (sym is) tt
+fits_revised b es others e (then.Send due) before h s book all follows suits few room (inr (inl (waits, none, drops, is))) = subst (Fits b (es ++ others)) (sym is) tt
 fits_revised b es others e (then.Send due) before h s book all follows suits few room (inr (inr (tried, cancelled, drops, is))) = subst (Fits b (es ++ others)) (sym is) tt
 fits_revised b es others e (then.Recorded n) before h s book all follows suits few room (inl (waits, same, is)) =
     let tried : 0 < times_tried (es ++ others) n =
     omega (arith, others_tried es others n all, (waits_to_follow es e (then.Recorded n) n follows suits refl).1) in
     subst (Fits b (es ++ others)) (sym is) (fits_printed b (es ++ others) n (waits (es ++ others) book) tried (omega (arith, few)))
 fits_revised b es others e (then.Recorded n) before h s book all follows suits few room (inr (tried, cancelled, drops, is)) = subst (Fits b (es ++ others)) (sym is) tt
+fits_revised b es others e (then.GoOn n tried due) before h s book all follows suits few room (inl (waits, same, goes)) =
+    let tried_so : 0 < times_tried (es ++ others) n = omega (arith, others_tried es others n all, (going_to_follow es e n tried due follows suits).1) in
+    fits_recorded b (es ++ others) n due.further before s book (waits (es ++ others) book) tried_so (omega (arith, few)) goes
+fits_revised b es others e (then.GoOn n tried due) before h s book all follows suits few room (inr (times, cancelled, drops, is)) = subst (Fits b (es ++ others)) (sym is) tt
+fits_revised b es others e (then.SendNext n due) before h s book all follows suits few room (drops, is) = subst (Fits b (es ++ others)) (sym is) tt
 fits_revised b es others e then.Queued before h s book all follows suits few room none = absurd none
 fits_revised b es others e (then.Take content) before h s book all follows suits few room none = absurd none
 fits_revised b es others e then.Raised before h s book all follows suits few room none = absurd none
@@ -201,3 +221,9 @@ since_so known found rest items same rest_is items_are each ledger =
 pub no_entries : (es : List Entry) → true ≡ (length es == 0) → es ≡ []
 no_entries [] none = refl
 no_entries (e ∷ es) none = absurd (let bad : true ≡ false = none ∙ is_other (length (e ∷ es)) 0 (λ zero_is. omega (arith, zero_is)) in cc)
+
+-- ## What came of it
+
+pub either_way : {A : Type 0} {B : StoreFault → Type 0} (r : Result Unit StoreFault) → OnOk r A → IfErr r B → A ⊎ ((why : StoreFault) × B why)
+either_way (Ok u) all fails = inl all
+either_way (Err why) all fails = inr (why, fails)

@@ -22,11 +22,14 @@ use Rattle.escpos_till.specs.declared.machine.TillNote.TheVariants as note
 use Rattle.escpos_till.specs.declared.state.ReceiptState.TheVariants as state
 use Rattle.escpos_till.specs.declared.entry.Content.{Content}
 use Rattle.std.specs.Prelude.{MatchOption}
-use Rattle.escpos_till.specs.Book.{HasRoom, IsBookOf, NeedsNoRoom}
+use Rattle.escpos_till.specs.Book.{HasRoom, HasTryRoom, IsBookOf, NeedsNoRoom}
+use Rattle.escpos_till.specs.Delivers.{most_entries}
+use Rattle.escpos_till.specs.declared.further.Further.{Further}
+use Rattle.escpos_till.specs.Further.{GoesFurther}
 use Rattle.escpos_till.specs.Entries.{HasKey, MayFollow, Waits, states, times_tried}
-use Rattle.escpos_till.specs.Machine.{Came, Drops, Fits, RefusesSending, Follows, GoesOn, HearsOne, IsKnown, IsNew, Opens, Submits, Suits, Turns, most_entries, printed, taking, with_pause}
+use Rattle.escpos_till.specs.Machine.{Came, Drops, Fits, IsGoingOn, RefusesSending, Follows, GoesOn, HearsOne, IsKnown, IsNew, Opens, SendsNext, Submits, Suits, Turns, printed, taking, with_pause}
 use Rattle.escpos_till.proofs.BookLemmas.{get-here}
-use Rattle.escpos_till.proofs.EntryLemmas.{some_state, tried_states, waits_by_state, within_states}
+use Rattle.escpos_till.proofs.EntryLemmas.{next_after_recorded, some_state, tried_states, waits_by_state, within_states}
 
 -- A receipt that waits and is tried waits still, and was tried.
 pub waits_tried : (es : List Entry) (n next : ℕ) → Waits es n → Waits (es ++ entry.Tried n next ∷ []) n × (0 < times_tried (es ++ entry.Tried n next ∷ []) n)
@@ -59,17 +62,39 @@ fits_printed b es n waits tried few = (
   λ content is. absurd (let bad : entry.Recorded n ≡ entry.Queued content = is in cc),
   λ number next is. absurd (let bad : entry.Recorded n ≡ entry.Tried number next = is in cc),
   λ content is. absurd (let bad : then.Recorded n ≡ then.Take content = is in cc),
+  tt,
 )
 
-pub fits_turns : (b : Book) (es : List Entry) (e : HostEvent) (talk : Talk) (left : ℕ) (before h : HostView) (s : Stage) → Fits b es (stage.Talking talk) → Turns b e talk left before h s → Fits b es s
-fits_turns b es event.None talk left before h s fits so = fits_going_on b es talk left before h s fits.0 fits.1 fits.2 so
-fits_turns b es (event.Status byte) talk left before h s fits so = fits_going_on b es talk left before h s fits.0 fits.1 fits.2 so
-fits_turns b es (event.Condition block) talk left before h s fits (p, after, on) = fits_going_on b es (with_pause talk p) left before h s fits.0 fits.1 fits.2 on
-fits_turns b es event.Opened talk left before h s fits so = fits_submits b es talk talk.receipt left before h s fits.0 fits.1 fits.2 so
-fits_turns b es (event.Recorded place) talk left before h s fits so = subst (Fits b es) (sym so.1) (fits_printed b es talk.number fits.0 fits.1 fits.2)
-fits_turns b es (event.Late id) talk left before h s fits (inl (closes, same, is)) = subst (Fits b es) (sym is) (fits_printed b es talk.number fits.0 fits.1 fits.2)
-fits_turns b es (event.Late id) talk left before h s fits (inr (other, on)) = fits_going_on b es talk left before h s fits.0 fits.1 fits.2 on
-fits_turns b es (event.BadAnswer place) talk left before h s fits so = subst (Fits b es) (sym so.1) tt
+-- And with that the next one may be tried.
+pub fits_further : (b : Book) (es : List Entry) (n : ℕ) (further : Option Further) (before : HostView) (s : Stage) → IsBookOf b es → Waits es n → 0 < times_tried es n → GoesFurther b n further before s
+    → Fits b es s
+fits_further b es n further before s book waits tried g =
+    let limit : ℕ = b.next + 1 in
+    let follows : MayFollow es (entry.Recorded n) = (waits, tried) in
+    subst (Fits b es) (sym g.stage_is) (
+      follows,
+      (refl, (limit, refl)),
+      g.after.few es book,
+      λ content is. absurd (let bad : entry.Recorded n ≡ entry.Queued content = is in cc),
+      (λ number next is. absurd (let bad : entry.Recorded n ≡ entry.Tried number next = is in cc)),
+      (λ content is. absurd (let bad : then.GoOn n (entry.Tried g.due.number limit) g.due ≡ then.Take content = is in cc)),
+      ((g.after.waits es book follows, omega (arith, book.next, next_after_recorded es n)), g.after.room),
+    )
+
+pub fits_recorded : (b : Book) (es : List Entry) (n : ℕ) (further : Option Further) (before : HostView) (s : Stage) → IsBookOf b es → Waits es n → 0 < times_tried es n → length es < most_entries
+    → (s ≡ printed n) ⊎ GoesFurther b n further before s → Fits b es s
+fits_recorded b es n further before s book waits tried few (inl is) = subst (Fits b es) (sym is) (fits_printed b es n waits tried few)
+fits_recorded b es n further before s book waits tried few (inr goes) = fits_further b es n further before s book waits tried goes
+
+pub fits_turns : (b : Book) (es : List Entry) (e : HostEvent) (talk : Talk) (left : ℕ) (before h : HostView) (s : Stage) → IsBookOf b es → Fits b es (stage.Talking talk) → Turns b e talk left before h s → Fits b es s
+fits_turns b es event.None talk left before h s book fits so = fits_going_on b es talk left before h s fits.0 fits.1 fits.2 so
+fits_turns b es (event.Status byte) talk left before h s book fits so = fits_going_on b es talk left before h s fits.0 fits.1 fits.2 so
+fits_turns b es (event.Condition block) talk left before h s book fits (p, after, on) = fits_going_on b es (with_pause talk p) left before h s fits.0 fits.1 fits.2 on
+fits_turns b es event.Opened talk left before h s book fits so = fits_submits b es talk talk.receipt left before h s fits.0 fits.1 fits.2 so
+fits_turns b es (event.Recorded place) talk left before h s book fits so = fits_recorded b es talk.number talk.further before s book fits.0 fits.1 fits.2 so.1
+fits_turns b es (event.Late id) talk left before h s book fits (inl (closes, same, is)) = subst (Fits b es) (sym is) (fits_printed b es talk.number fits.0 fits.1 fits.2)
+fits_turns b es (event.Late id) talk left before h s book fits (inr (other, on)) = fits_going_on b es talk left before h s fits.0 fits.1 fits.2 on
+fits_turns b es (event.BadAnswer place) talk left before h s book fits so = subst (Fits b es) (sym so.1) tt
 
 -- Once an entry is kept, what follows fits the entries with it.
 fits_opens : (b : Book) (es : List Entry) (due : Due) (first : ℕ) (h : HostView) (s : Stage) → Waits es due.number → 0 < times_tried es due.number → length es < most_entries
@@ -109,18 +134,64 @@ fits_taken b b' es e content suits few room stays =
       λ c is. stays (needs_none e content suits) room,
       λ number next is. absurd (let bad : entry.Queued content ≡ entry.Tried number next = is in cc),
       λ c is. absurd (let bad : then.Queued ≡ then.Take c = is in cc),
+      tt,
     )
 
+-- After that a receipt is recorded the next one may be tried.
+fits_going : (b b' : Book) (es : List Entry) (e : Entry) (n : ℕ) (tried : Entry) (due : Due) → Suits (then.GoOn n tried due) e → length es + 2 < most_entries → MayFollow (es ++ e ∷ []) tried
+    → HasTryRoom b → ((m : ℕ) → e ≡ entry.Recorded m → HasTryRoom b → HasTryRoom b') → Fits b' (es ++ e ∷ []) (stage.Keeping tried (then.SendNext n due))
+fits_going b b' es (entry.Recorded m) n tried due (same, (limit, is)) few follows room stays =
+    let more : List Entry = es ++ entry.Recorded m ∷ [] in
+    let long : length more ≡ length es + 1 = length-append es (entry.Recorded m ∷ []) in
+    let this : Entry = entry.Tried due.number limit in
+    subst (λ x. Fits b' more (stage.Keeping x (then.SendNext n due))) (sym is) (
+      subst (MayFollow more) is follows,
+      refl,
+      omega (arith, few, long),
+      λ content bad. absurd (let no : this ≡ entry.Queued content = bad in cc),
+      (λ number next so. stays m refl room),
+      (λ content bad. absurd (let no : then.SendNext n due ≡ then.Take content = bad in cc)),
+      tt,
+    )
+fits_going b b' es (entry.Queued content) n tried due suits few follows room stays = absurd suits
+fits_going b b' es (entry.Tried m next) n tried due suits few follows room stays = absurd suits
+fits_going b b' es (entry.Raised next) n tried due suits few follows room stays = absurd suits
+fits_going b b' es (entry.Cancelled m) n tried due suits few follows room stays = absurd suits
+fits_going b b' es (entry.Key key) n tried due suits few follows room stays = absurd suits
+
+fits_sends_next : (b : Book) (es : List Entry) (n : ℕ) (due : Due) (before h : HostView) (s : Stage) → Waits es due.number → 0 < times_tried es due.number → length es < most_entries
+    → SendsNext n due before h s → Fits b es s
+fits_sends_next b es n due before h s waits tried few (inl (sends, is)) = subst (Fits b es) (sym is) (waits, tried, few)
+fits_sends_next b es n due before h s waits tried few (inr (why, refuses, drops, is)) = subst (Fits b es) (sym is) tt
+
+fits_sent_next : (b : Book) (es : List Entry) (e : Entry) (n : ℕ) (due : Due) (before h : HostView) (s : Stage) → MayFollow es e → Suits (then.SendNext n due) e → length es + 1 < most_entries
+    → SendsNext n due before h s → Fits b (es ++ e ∷ []) s
+fits_sent_next b es (entry.Tried m next) n due before h s follows suits few sends =
+    let more : List Entry = es ++ entry.Tried m next ∷ [] in
+    let so = waits_tried es m next follows.0 in
+    let long : length more ≡ length es + 1 = length-append es (entry.Tried m next ∷ []) in
+    fits_sends_next b more n due before h s (subst (Waits more) suits so.0) (subst (λ k. 0 < times_tried more k) suits so.1) (omega (arith, long, few)) sends
+fits_sent_next b es (entry.Queued content) n due before h s follows suits few sends = absurd suits
+fits_sent_next b es (entry.Recorded m) n due before h s follows suits few sends = absurd suits
+fits_sent_next b es (entry.Raised next) n due before h s follows suits few sends = absurd suits
+fits_sent_next b es (entry.Cancelled m) n due before h s follows suits few sends = absurd suits
+fits_sent_next b es (entry.Key key) n due before h s follows suits few sends = absurd suits
+
 pub fits_follows : (b b' : Book) (es : List Entry) (e : Entry) (next : Then) (before : HostView) (first : ℕ) (h : HostView) (s : Stage) → Fits b es (stage.Keeping e next)
-    → (NeedsNoRoom e → HasRoom b → HasRoom b') → Follows next before first b' h s → Fits b' (es ++ e ∷ []) s
-fits_follows b b' es e then.Queued before first h s fits stays so = subst (Fits b' (es ++ e ∷ [])) (sym so.3) tt
-fits_follows b b' es e (then.Take content) before first h s fits stays so =
-    let (follows, suits, few, queued, tried, room) = fits in
+    → (NeedsNoRoom e → HasRoom b → HasRoom b') → ((n : ℕ) (tried : Entry) (due : Due) (m : ℕ) → next ≡ then.GoOn n tried due → e ≡ entry.Recorded m → HasTryRoom b → HasTryRoom b')
+    → Follows next before first b' h s → Fits b' (es ++ e ∷ []) s
+fits_follows b b' es e then.Queued before first h s fits stays try_stays so = subst (Fits b' (es ++ e ∷ [])) (sym so.3) tt
+fits_follows b b' es e (then.Take content) before first h s fits stays try_stays so =
+    let (follows, suits, few, queued, tried, room, with) = fits in
     subst (Fits b' (es ++ e ∷ [])) (sym so.1) (fits_taken b b' es e content suits few (room content refl) stays)
-fits_follows b b' es e then.Raised before first h s fits stays so = subst (Fits b' (es ++ e ∷ [])) (sym so.1) tt
-fits_follows b b' es e (then.Cancelled number tried) before first h s fits stays so = subst (Fits b' (es ++ e ∷ [])) (sym so.1) tt
-fits_follows b b' es e (then.Send due) before first h s fits stays so = fits_sent b' es e due first h s fits.0 fits.1 fits.2 so
-fits_follows b b' es e (then.Recorded number) before first h s fits stays so = subst (Fits b' (es ++ e ∷ [])) (sym so.1) tt
+fits_follows b b' es e then.Raised before first h s fits stays try_stays so = subst (Fits b' (es ++ e ∷ [])) (sym so.1) tt
+fits_follows b b' es e (then.Cancelled number tried) before first h s fits stays try_stays so = subst (Fits b' (es ++ e ∷ [])) (sym so.1) tt
+fits_follows b b' es e (then.Send due) before first h s fits stays try_stays so = fits_sent b' es e due first h s fits.0 fits.1 fits.2 so
+fits_follows b b' es e (then.Recorded number) before first h s fits stays try_stays so = subst (Fits b' (es ++ e ∷ [])) (sym so.1) tt
+fits_follows b b' es e (then.GoOn n tried due) before first h s fits stays try_stays so =
+    let (follows, suits, few, queued, at_try, taken, (tries, room)) = fits in
+    subst (Fits b' (es ++ e ∷ [])) (sym so.1) (fits_going b b' es e n tried due suits few tries room (λ m is. try_stays n tried due m refl is))
+fits_follows b b' es e (then.SendNext n due) before first h s fits stays try_stays so = fits_sent_next b' es e n due before h s fits.0 fits.1 fits.2 so
 
 -- A receipt that was taken has a state.
 pub state_of_taken : (es : List Entry) (e : Entry) → Suits then.Queued e → 0 < length (states (es ++ e ∷ []))
@@ -134,14 +205,15 @@ state_of_taken es (entry.Key key) suits = absurd suits
 -- What came over a link, as it is told of the machine's parts.
 pub came_so : (talk : Talk) (now : Stage) (b inside : Book) (h host : HostView) (bytes : List ℕ) (consumed : ℕ) (e : HostEvent) (heard : HostView) (left : ℕ) (after : HostView) (s : Stage)
     → now ≡ stage.Talking talk → host ≡ h → inside ≡ b → HearsOne host bytes consumed e heard → left ≡ talk.left - consumed → Turns inside e talk left heard after s
-    → Came now bytes consumed (record { book = b; host = h; stage = now }) (record { book = inside; host = after; stage = s })
-came_so talk now b inside h host bytes consumed e heard left after s is same books hears less turns =
+    → (IsGoingOn s → consumed ≡ length bytes) → Came now bytes consumed (record { book = b; host = h; stage = now }) (record { book = inside; host = after; stage = s })
+came_so talk now b inside h host bytes consumed e heard left after s is same books hears less turns all =
     subst (λ stage. Came stage bytes consumed (record { book = b; host = h; stage = now }) (record { book = inside; host = after; stage = s })) (sym is) (
       e,
       heard,
       subst (λ x. HearsOne x bytes consumed e heard) same hears,
       subst (λ k. Turns k e talk (talk.left - consumed) heard after s) books (subst (λ n. Turns inside e talk n heard after s) less turns),
       books,
+      all,
     )
 
 -- No more is heard than came.
@@ -194,6 +266,7 @@ fits_taking b old es (Some key) last content book was new few room = (
   λ c is. absurd (let bad : entry.Key key ≡ entry.Queued c = is in cc),
   λ number next is. absurd (let bad : entry.Key key ≡ entry.Tried number next = is in cc),
   λ c is. room,
+  tt,
 )
 fits_taking b old es None (Some last) content book was new few room = (
   omega (arith, book.next),
@@ -202,6 +275,7 @@ fits_taking b old es None (Some last) content book was new few room = (
   λ c is. absurd (let bad : entry.Raised b.next ≡ entry.Queued c = is in cc),
   λ number next is. absurd (let bad : entry.Raised b.next ≡ entry.Tried number next = is in cc),
   λ c is. room,
+  tt,
 )
 fits_taking b old es None None content book was new few room = (
   tt,
@@ -210,4 +284,5 @@ fits_taking b old es None None content book was new few room = (
   λ c is. room,
   λ number next is. absurd (let bad : entry.Queued content ≡ entry.Tried number next = is in cc),
   λ c is. absurd (let bad : then.Queued ≡ then.Take c = is in cc),
+  tt,
 )

@@ -1,9 +1,9 @@
 -- What one more entry does to the first receipt that waits.
-use Rattle.std.proofs.Common.{ℕ, zero, suc, ◌≡◌, ◌<◌, ◌≤◌, ◌⊎◌, inl, inr, Some, None, List, [], ◌∷◌, ◌++◌, length, set, refl, sym, ap, subst, length-append, length-set, arith}
+use Rattle.std.proofs.Common.{ℕ, zero, suc, ◌≡◌, ◌≢◌, ◌+◌, ◌<◌, ◌≤◌, ◌⊎◌, inl, inr, Some, None, List, [], ◌∷◌, ◌++◌, length, set, refl, sym, ap, subst, length-append, length-set, arith}
 use Rattle.std.specs.Prelude.{slice_get}
 use Rattle.escpos_till.specs.declared.state.ReceiptState.{ReceiptState}
 use Rattle.escpos_till.specs.declared.state.ReceiptState.TheVariants as state
-use Rattle.escpos_till.specs.States.{IsFirstWaiting, IsEnded}
+use Rattle.escpos_till.specs.States.{IsFirstBesides, IsFirstWaiting, IsNextWaiting, IsEnded}
 
 pub get-set : {X : Type 0} (xs : List X) (i k : ℕ) (y s : X) → slice_get (set xs i y) k ≡ Some s → ((k ≡ i) × (s ≡ y) × (k < length xs)) ⊎ (slice_get xs k ≡ Some s)
 get-set [] i k y s h = inr h
@@ -31,6 +31,49 @@ ended_unless (state.Cancelled tried) other = tt
 
 waiting_is_not : (s : ReceiptState) (tried : ℕ) → s ≡ state.Waiting tried → IsEnded s → ⊥
 waiting_is_not s tried e h = subst IsEnded e h
+
+below_or_from : (k from : ℕ) → (k < from) ⊎ (from ≤ k)
+below_or_from k zero = inr (omega arith)
+below_or_from zero (suc from) = inl (omega arith)
+below_or_from (suc k) (suc from) = elim (below_or_from k from) [
+  | inl below ↦ inl (omega (arith, below))
+  | inr beyond ↦ inr (omega (arith, beyond))
+]
+
+pub first_of_next : (ss : List ReceiptState) (from at : ℕ) → ((k : ℕ) (s : ReceiptState) → k < from → slice_get ss k ≡ Some s → IsEnded s) → IsNextWaiting ss from at → IsFirstWaiting ss at
+first_of_next ss from at passed next = record {
+  within = next.within;
+  passed = λ k s before h. elim (below_or_from k from) [
+    | inl below ↦ passed k s below h
+    | inr beyond ↦ next.passed k s beyond before h
+  ];
+  waits = next.waits;
+}
+
+-- Where the first one is left out, the next one is the first of the others.
+pub besides_first : (ss : List ReceiptState) (first at : ℕ) → IsFirstWaiting ss first → IsNextWaiting ss (first + 1) at → IsFirstBesides ss first at
+besides_first ss first at f next = record {
+  other = λ l same. omega (arith, next.beyond, same);
+  passed = λ k s before differs h. elim (below_or_from k first) [
+    | inl below ↦ f.passed k s below h
+    | inr beyond ↦ next.passed k s (later k first beyond differs) before h
+  ];
+  waits = next.waits;
+}
+  where
+    later : (k first : ℕ) → first ≤ k → k ≢ first → first + 1 ≤ k
+    later k first beyond differs = elim (below_or_from first k) [
+      | inl below ↦ omega (arith, below)
+      | inr fewer ↦ absurd (differs (omega (arith, beyond, fewer)))
+    ]
+
+-- Where another one is, it is the first still.
+pub besides_other : (ss : List ReceiptState) (first skipped : ℕ) → IsFirstWaiting ss first → (skipped ≡ first → skipped < length ss → ⊥) → IsFirstBesides ss skipped first
+besides_other ss first skipped f other = record {
+  other = λ l same. other (sym same) (subst (λ n. n < length ss) same l);
+  passed = λ k s before differs h. f.passed k s before h;
+  waits = f.waits;
+}
 
 pub first_after_queued : (ss : List ReceiptState) (at : ℕ) → IsFirstWaiting ss at → IsFirstWaiting (ss ++ state.Waiting 0 ∷ []) at
 first_after_queued ss at f = record {

@@ -1,10 +1,15 @@
--- What a store answers where an entry is to be added.
-use Rattle.std.specs.Prelude.{List}
+-- What a store is to add, and what it answers.
+use Rattle.std.specs.Prelude.{Option, Some, None, List, [], ◌∷◌}
 use Rattle.escpos_till.specs.declared.entry.Entry.{Entry}
 use Rattle.escpos_till.specs.declared.store.Appended.{Appended}
 use Rattle.escpos_till.specs.declared.store.Appended.TheVariants as appended
 
--- The store has the entry: this holds then.
+-- What is added at once: an entry, and perhaps another one after it.
+abbrev pub added : Entry → Option Entry → List Entry
+added e None = e ∷ []
+added e (Some f) = e ∷ f ∷ []
+
+-- The store has what was to be added: this holds then.
 abbrev pub IfDone : Appended → Type 0 → Type 0
 IfDone appended.Done Holds = Holds
 IfDone (appended.Others others) Holds = Unit {0}

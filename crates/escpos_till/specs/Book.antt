@@ -1,5 +1,5 @@
 -- What a till knows of its ledger: what the entries say, as far as taking and delivering receipts needs it.
-use Rattle.std.specs.Prelude.{ℕ, ◌≡◌, ◌<◌, Some, List, [], ◌∷◌, ◌++◌, length, slice_get}
+use Rattle.std.specs.Prelude.{ℕ, ◌≡◌, ◌+◌, ◌<◌, Some, List, [], ◌∷◌, ◌++◌, length, slice_get}
 use Rattle.escpos_till.specs.declared.book.Book.{Book}
 use Rattle.escpos_till.specs.declared.entry.Content.{Content}
 use Rattle.escpos_till.specs.declared.entry.Entry.{Entry}
@@ -37,6 +37,12 @@ pub record IsBookOf (b : Book) (entries : List Entry) : Type 0 where
 -- One more entry, which may follow, is taken into account.
 abbrev pub Notes : Book → Entry → Book → Type 0
 Notes old e new = (entries : List Entry) → IsBookOf old entries → IsLedger entries → MayFollow entries e → IsBookOf new (entries ++ e ∷ [])
+
+-- The receipt at this place has this number and this content; it waits, and was tried so often.
+pub record StandsAt (b : Book) (place number : ℕ) (content : Content) (tried : ℕ) : Type 0 where
+  pub number_is : number ≡ place + 1
+  pub waits : slice_get b.states.items place ≡ Some (state.Waiting tried)
+  pub kept : slice_get b.contents.items place ≡ Some content
 
 -- There is room for one more receipt, with a key.
 pub record HasRoom (b : Book) : Type 0 where

@@ -1,5 +1,5 @@
 -- What is delivered: the first receipt that waits, as it is sent.
-use Rattle.std.specs.Prelude.{ℕ, ◌≡◌, ◌+◌, max, Option, Some, List, [], slice_get}
+use Rattle.std.specs.Prelude.{ℕ, ◌≡◌, ◌+◌, ◌^◌, max, Option, Some, List, [], slice_get}
 use Rattle.escpos_command.specs.declared.command.Command.{Command}
 use Rattle.escpos_host.specs.Machine.{HostView, Down}
 use Rattle.escpos_receipt.specs.declared.json.JsonError.{JsonError}
@@ -10,6 +10,10 @@ use Rattle.escpos_till.specs.declared.entry.Entry.{Entry}
 use Rattle.escpos_till.specs.Contents.{ContentDescribes, IsContentFault}
 use Rattle.escpos_till.specs.Copy.{sent_of}
 use Rattle.escpos_till.specs.Entries.{times_tried, waiting}
+
+-- No more entries than these are ever taken.
+abbrev pub most_entries : ℕ
+most_entries = 2 ^ 62
 
 -- The first receipt that waits has this number and this content, and was tried this many times.
 pub record FirstWaits (entries : List Entry) (number : ℕ) (content : Content) (tried : ℕ) : Type 0 where
@@ -35,6 +39,7 @@ WhyNone json.Memory content = Unit {0}
 abbrev pub marks_taken : ℕ → ℕ
 marks_taken openings = max openings 1 + 1
 
--- A host that has sent nothing yet, and has no record. Its first mark will have this number.
+-- A host that has sent nothing yet, and has no record. Its first mark will have this number. It doesn't know which marks of older
+-- hosts are answered: a till's marks all have numbers below the count of ids.
 abbrev pub fresh : ℕ → HostView
-fresh first = record { phase = Down; out = []; half = []; next = first; records = []; left = [] }
+fresh first = record { phase = Down; out = []; half = []; next = first; heard = 0; records = []; left = [] }

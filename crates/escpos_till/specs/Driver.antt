@@ -1,5 +1,5 @@
 -- What a driver does with a machine: all that the machine asks for, in order, with nothing between.
-use Rattle.std.specs.Prelude.{ℕ, Option, Some, None, ◌≡◌, ◌≢◌, ◌⊎◌, ◌+◌, ◌<◌, ◌≤◌, List, [], ◌∷◌, ◌++◌, length, take, drop}
+use Rattle.std.specs.Prelude.{ℕ, Bool, Option, Some, None, ◌≡◌, ◌≢◌, ◌⊎◌, ◌+◌, ◌<◌, ◌≤◌, List, [], ◌∷◌, ◌++◌, length, take, drop}
 use Rattle.escpos_host.specs.declared.send.SendFault.{SendFault}
 use Rattle.escpos_host.specs.Machine.{IsSound}
 use Rattle.escpos_till.specs.declared.entry.Content.{Content}
@@ -13,15 +13,15 @@ use Rattle.escpos_till.specs.declared.machine.TillNote.TheVariants as note
 use Rattle.escpos_till.specs.declared.pause.Pause.{Pause}
 use Rattle.escpos_till.specs.declared.store.StoreFault.{StoreFault}
 use Rattle.escpos_till.specs.Learning.{Learned}
-use Rattle.escpos_till.specs.Machine.{Came, Cancels, Delivers, Ended, IsFinal, Kept, MachineView, Queues, Raises, Rests, SendsReceipt, Unsure, connected, hung_up, news_of, not_connected, put, told}
+use Rattle.escpos_till.specs.Machine.{Came, Cancels, Delivers, Ended, IsFinal, Kept, MachineView, Queues, Raises, Rests, SendsReceipt, Unsure, connected, entry_with, hung_up, news_of, not_connected, put, told}
 
 -- ## One turn
 
 -- What is done of what a machine asks for.
 pub data Deed : Type 0 where
-  -- the entry is kept; or the store couldn't tell whether it is
-  Keeps : Entry → Deed
-  Loses : Entry → StoreFault → Deed
+  -- the entry is kept, and with it perhaps another one; or the store couldn't tell whether that is so
+  Keeps : Entry → Option Entry → Deed
+  Loses : Entry → Option Entry → StoreFault → Deed
   -- no entry is kept, since others have added these
   Learns : List Entry → Deed
   -- a link is opened; or there is none
@@ -37,7 +37,9 @@ pub data Deed : Type 0 where
   HangsUp : Deed
   -- the owner is told that the printer prints nothing for now, while the receipt with this number is being sent
   Pauses : ℕ → Pause → Deed
-  -- the owner is told this
+  -- the owner is told that the receipt with this number is recorded, while the next one is being sent
+  Confirms : ℕ → Deed
+  -- the owner is told this, which came of a call
   Tells : TillNote → Deed
 
 -- Its owner is told what came of a call.
@@ -45,16 +47,18 @@ abbrev pub IsTold : Deed → Type 0
 IsTold (Tells note) = Unit {0}
 IsTold deed = ⊥
 
--- Its owner is told something, of a call or of a pause.
+-- Its owner is told something: what came of a call, a pause, or that a receipt is recorded while the next one is being sent.
 abbrev pub IsSaid : Deed → Type 0
 IsSaid (Tells note) = Unit {0}
 IsSaid (Pauses number why) = Unit {0}
+IsSaid (Confirms number) = Unit {0}
 IsSaid deed = ⊥
 
 -- By this deed its owner is told this note.
 abbrev pub IsTelling : Deed → TillNote → Type 0
 IsTelling (Tells n) told = (n ≡ told) × IsFinal n
 IsTelling (Pauses number why) told = note.Paused number why ≡ told
+IsTelling (Confirms number) told = note.Recorded number ≡ told
 IsTelling deed told = ⊥
 
 -- It hears these bytes, each time up to an event, for as long as it talks; what comes after that is dropped. The counts are how many it took
@@ -89,10 +93,24 @@ pub record IsWaiting (m : MachineView) (room : ℕ) : Type 0 where
   pub within : room ≤ talk.left
   pub some : room ≡ 0 → talk.left ≡ 0
 
+-- No entry is kept with that one, or the one that is to be.
+abbrev pub MayGoWith : Option Entry → Then → Type 0
+MayGoWith None next = Unit {0}
+MayGoWith (Some f) next = entry_with next ≡ Some f
+
+-- It asks for an entry to be kept, and is told that it is; and so for the next one, if both are kept together.
+abbrev pub KeepsEntry : MachineView → Entry → MachineView → Type 0
+KeepsEntry m e after = (next : Then) × (m.stage ≡ stage.Keeping e next) × Kept m.stage m after
+
+abbrev pub KeepsOne : MachineView → Entry → MachineView → Option Entry → Type 0
+KeepsOne m e after None = KeepsEntry m e after
+KeepsOne m e after (Some f) =
+    (mid : MachineView) × (next : Then) × (m.stage ≡ stage.Keeping e next) × (entry_with next ≡ Some f) × Kept m.stage m mid × IsSound mid.host × KeepsEntry mid f after
+
 -- The machine asks for this deed, and is told what came of it.
 abbrev pub Turns : MachineView → Deed → MachineView → Type 0
-Turns m (Keeps e) after = (next : Then) × (m.stage ≡ stage.Keeping e next) × Kept m.stage m after
-Turns m (Loses e why) after = (next : Then) × (m.stage ≡ stage.Keeping e next) × Unsure m.stage why m after
+Turns m (Keeps e and_then) after = KeepsOne m e after and_then
+Turns m (Loses e and_then why) after = (next : Then) × (m.stage ≡ stage.Keeping e next) × MayGoWith and_then next × Unsure m.stage why m after
 Turns m (Learns others) after = (e : Entry) × (next : Then) × (m.stage ≡ stage.Keeping e next) × Learned m.stage others m after
 Turns m Links after = (due : Due) × (m.stage ≡ stage.Connecting due) × (after ≡ connected m.stage m)
 Turns m Misses after = (due : Due) × (m.stage ≡ stage.Connecting due) × (after ≡ not_connected m.stage m)
@@ -102,6 +120,7 @@ Turns m (Gives room bytes) after = IsWaiting m room × (length bytes ≤ room) �
 Turns m (Ends why) after = (room : ℕ) × IsWaiting m room × Ended m.stage why m after
 Turns m HangsUp after = (note : TillNote) × (m.stage ≡ stage.HangingUp note) × (after ≡ hung_up m.stage m)
 Turns m (Pauses number why) after = (talk : Talk) × (m.stage ≡ stage.Talking talk) × (news_of talk ≡ Some (note.Paused number why)) × (after ≡ told m.stage m)
+Turns m (Confirms number) after = (talk : Talk) × (m.stage ≡ stage.Talking talk) × (talk.recorded ≡ Some number) × (after ≡ told m.stage m)
 Turns m (Tells note) after = (m.stage ≡ stage.Telling note) × (after ≡ told m.stage m)
 
 -- ## A run
@@ -128,7 +147,7 @@ abbrev pub TellsNothing : List Deed → Type 0
 TellsNothing [] = Unit {0}
 TellsNothing (d ∷ ds) = (IsTold d → ⊥) × TellsNothing ds
 
--- Nor of a pause.
+-- Nor of a pause, nor of a receipt while the next one is being sent.
 abbrev pub SaysNothing : List Deed → Type 0
 SaysNothing [] = Unit {0}
 SaysNothing (d ∷ ds) = (IsSaid d → ⊥) × SaysNothing ds
@@ -144,12 +163,23 @@ pub record RanPaused {D : Type 0} (did : D → Deed → D → Type 0) (m : Machi
   pub quiet : SaysNothing before
   pub goes_on : Rests after.stage → ⊥
 
--- A run at whose end the machine's owner is told this: what came of a call, and nothing of one before; or that the printer prints nothing for now.
--- So many deeds may still be done then, of those that might be.
+-- A run at whose end the machine's owner is told that a receipt is recorded, while the next one is being sent.
+pub record RanConfirming {D : Type 0} (did : D → Deed → D → Type 0) (m : MachineView) (old : D) (n : TillNote) (most : ℕ) (after : MachineView) (new : D) : Type 0 where
+  pub before : List Deed
+  pub number : ℕ
+  pub note_is : n ≡ note.Recorded number
+  pub did_all : DidAll did m old (before ++ Confirms number ∷ []) after new
+  pub turns : length before < most
+  pub quiet : SaysNothing before
+  pub goes_on : Rests after.stage → ⊥
+
+-- A run at whose end the machine's owner is told this: what came of a call, and nothing of one before; or, while the call goes on, that the
+-- printer prints nothing for now, or that a receipt is recorded. So many deeds may still be done then, of those that might be.
 abbrev pub RanUpTo : {D : Type 0} → (D → Deed → D → Type 0) → MachineView → D → TillNote → ℕ → ℕ → MachineView → D → Type 0
 RanUpTo did m old n most left after new =
-    (IsFinal n × ((ran : RanTo did m old n most after new) × SaysNothing ran.before × (length ran.before + 1 + left ≡ most)))
-    ⊎ ((ran : RanPaused did m old n most after new) × (length ran.before + 1 + left ≡ most))
+    (IsFinal n × ((ran : RanTo did m old n most after new) × SaysNothing ran.before × (length ran.before + 1 + left ≡ most) × Rests after.stage))
+    ⊎ (((ran : RanPaused did m old n most after new) × (length ran.before + 1 + left ≡ most))
+    ⊎ ((ran : RanConfirming did m old n most after new) × (length ran.before + 1 + left ≡ most)))
 
 -- A run with so many deeds, by which its owner is told nothing of what came of a call.
 pub record RanFor {D : Type 0} (did : D → Deed → D → Type 0) (m : MachineView) (old : D) (after : MachineView) (new : D) (count : ℕ) : Type 0 where
@@ -157,7 +187,7 @@ pub record RanFor {D : Type 0} (did : D → Deed → D → Type 0) (m : MachineV
   pub turns : length run.deeds ≡ count
   pub quiet : TellsNothing run.deeds
 
--- The same, where its owner is told of no pause either.
+-- The same, where its owner is told of nothing else either.
 abbrev pub RanQuietly : {D : Type 0} → (D → Deed → D → Type 0) → MachineView → D → MachineView → D → ℕ → Type 0
 RanQuietly did m old after new count = (ran : RanFor did m old after new count) × SaysNothing ran.run.deeds
 
@@ -171,15 +201,16 @@ pub data Call : Type 0 where
   Raise : ℕ → Call
   -- the receipt with this number is to be cancelled
   Cancel : ℕ → Call
-  -- the first receipt that waits is to be delivered: with so many opening marks, at most so many bytes of answers, and perhaps a text for copies
-  Deliver : ℕ → ℕ → Option (List ℕ) → Call
+  -- the first receipt that waits is to be delivered: with so many opening marks, at most so many bytes of answers, and perhaps a text for
+  -- copies; and if that is said, those after it over the same link
+  Deliver : ℕ → ℕ → Option (List ℕ) → Bool → Call
 
 -- It is made, and what is to be sent is a receipt.
 abbrev pub Calls : MachineView → Call → MachineView → Type 0
 Calls m (Queue content key) asked = Queues m content key asked
 Calls m (Raise first) asked = Raises m first asked
 Calls m (Cancel number) asked = Cancels m number asked
-Calls m (Deliver openings most copy) asked = Delivers m openings most copy asked × SendsReceipt asked.stage
+Calls m (Deliver openings most copy further) asked = Delivers m openings most copy further asked × SendsReceipt asked.stage
 
 -- A call, and the run that follows, at whose end the owner is told this, with at most so many deeds.
 pub record Serves {D : Type 0} (did : D → Deed → D → Type 0) (m : MachineView) (old : D) (call : Call) (n : TillNote) (most : ℕ) (after : MachineView) (new : D) : Type 0 where

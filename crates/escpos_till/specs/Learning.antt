@@ -22,6 +22,7 @@ use Rattle.escpos_till.specs.declared.store.StoreFault.TheVariants as store
 use Rattle.escpos_till.specs.Book.{IsBookOf}
 use Rattle.escpos_till.specs.Delivers.{marks_taken}
 use Rattle.escpos_till.specs.Entries.{IsLedger, MayFollow, Waits, state_of, taken}
+use Rattle.escpos_till.specs.Further.{GoesFurther}
 use Rattle.escpos_till.specs.Machine.{Drops, MachineView, lost, printed}
 
 -- ## What others add
@@ -57,6 +58,7 @@ StandsIn b number =
 abbrev pub WaitsOrCancelled : Book → Then → Type 0
 WaitsOrCancelled b (then.Send due) = StandsIn b due.number
 WaitsOrCancelled b (then.Recorded number) = StandsIn b number
+WaitsOrCancelled b (then.GoOn number tried due) = StandsIn b number
 WaitsOrCancelled b next = Unit {0}
 
 -- These entries, each of which may follow, are taken into account.
@@ -73,20 +75,26 @@ EndsCancelled b number before h s =
     (tried : ℕ) × ((entries : List Entry) → IsBookOf b entries → state_of entries number ≡ state.Cancelled tried) × Drops before h
     × (s ≡ stage.HangingUp (note.Cancelled number tried))
 
--- What is to be kept then, where this is the book: a try has the mark numbers that are free then, if there are as many.
+-- What is to be kept then, where this is the book: a try has the mark numbers that are free then, if there are as many. A receipt that was
+-- to be sent over the link of the one before isn't: the link is given up.
 abbrev pub Revises : Then → Book → HostView → HostView → Stage → Type 0
 Revises (then.Send due) b before h s =
     (WaitsIn b due.number × (b.next + marks_taken due.openings ≤ mark_count) × (h ≡ before)
     × (s ≡ stage.Keeping (entry.Tried due.number (b.next + marks_taken due.openings)) (then.Send due)))
-    ⊎ (((mark_count < b.next + marks_taken due.openings) × Drops before h × (s ≡ stage.HangingUp (note.Waiting due.number (fault.Refused error.MarksUsedUp))))
+    ⊎ ((WaitsIn b due.number × (mark_count < b.next + marks_taken due.openings) × Drops before h × (s ≡ stage.HangingUp (note.Waiting due.number (fault.Refused error.MarksUsedUp))))
     ⊎ EndsCancelled b due.number before h s)
 Revises (then.Recorded number) b before h s = (WaitsIn b number × (h ≡ before) × (s ≡ printed number)) ⊎ EndsCancelled b number before h s
+Revises (then.GoOn number tried due) b before h s =
+    (WaitsIn b number × (h ≡ before) × ((s ≡ printed number) ⊎ GoesFurther b number due.further before s)) ⊎ EndsCancelled b number before h s
+Revises (then.SendNext recorded due) b before h s = Drops before h × (s ≡ stage.HangingUp (note.Recorded recorded))
 Revises next b before h s = ⊥
 
 -- A machine delivers, as others may while it has let go of its ledger.
 abbrev pub IsDelivering : Then → Type 0
 IsDelivering (then.Send due) = Unit {0}
 IsDelivering (then.Recorded number) = Unit {0}
+IsDelivering (then.GoOn number tried due) = Unit {0}
+IsDelivering (then.SendNext recorded due) = Unit {0}
 IsDelivering next = ⊥
 
 -- It fails for this reason: out of memory; or others may not have added these entries. A machine that delivers nothing fails, as nobody else may add any.

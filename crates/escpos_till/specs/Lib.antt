@@ -12,4 +12,5 @@ pub mod Driver
 pub mod Surroundings
 pub mod Book
 pub mod Machine
+pub mod Further
 pub mod Learning

@@ -1,5 +1,5 @@
 -- The machine of a till with one printer: what it asks for, and what each call does.
-use Rattle.std.specs.Prelude.{Bool, true, ℕ, zero, suc, ◌≡◌, ◌≢◌, ◌⊎◌, ◌+◌, ◌-◌, ◌<◌, ◌≤◌, ◌^◌, max, Option, Some, None, List, [], length}
+use Rattle.std.specs.Prelude.{Bool, true, false, ℕ, zero, suc, ◌≡◌, ◌≢◌, ◌⊎◌, ◌+◌, ◌-◌, ◌<◌, ◌≤◌, max, Option, Some, None, List, [], ◌∷◌, ◌++◌, length}
 use Rattle.escpos_command.specs.declared.command.Command.{Command}
 use Rattle.escpos_command.specs.CommandTable.{AreCommands}
 use Rattle.escpos_command.specs.Digits.{mark_count}
@@ -16,6 +16,7 @@ use Rattle.escpos_till.specs.declared.book.Book.{Book}
 use Rattle.escpos_till.specs.declared.entry.Content.{Content}
 use Rattle.escpos_till.specs.declared.entry.Entry.{Entry}
 use Rattle.escpos_till.specs.declared.entry.Entry.TheVariants as entry
+use Rattle.escpos_till.specs.declared.further.Further.{Further}
 use Rattle.escpos_till.specs.declared.machine.Action.{Action}
 use Rattle.escpos_till.specs.declared.machine.Action.TheVariants as action
 use Rattle.escpos_till.specs.declared.machine.Due.{Due}
@@ -36,7 +37,8 @@ use Rattle.escpos_till.specs.Book.{HasRoom, HasTryRoom, IsBookOf, Notes}
 use Rattle.escpos_till.specs.Pauses.{IsAfterBlock, no_news, not_paused}
 use Rattle.escpos_till.specs.Tries.{ClosesTry}
 use Rattle.escpos_till.specs.Contents.{GivesReceipt, IsContentFault}
-use Rattle.escpos_till.specs.Delivers.{Due as IsDue, FirstWaits, fresh, marks_taken}
+use Rattle.escpos_till.specs.Delivers.{Due as IsDue, FirstWaits, fresh, marks_taken, most_entries}
+use Rattle.escpos_till.specs.Further.{GoesFurther}
 use Rattle.escpos_till.specs.Entries.{HasKey, IsLedger, MayFollow, Waits, next_free, state_of, taken, times_tried, waiting}
 
 -- ## The model of a machine
@@ -53,10 +55,6 @@ at m s = record { book = m.book; host = m.host; stage = s }
 abbrev pub with_host : MachineView → HostView → Stage → MachineView
 with_host m h s = record { book = m.book; host = h; stage = s }
 
--- No more entries than these are ever taken.
-abbrev pub most_entries : ℕ
-most_entries = 2 ^ 62
-
 -- The last number to which the next one may be raised: it leaves as many as a try takes, one for an opening mark and one for the closing mark.
 abbrev pub last_first : ℕ
 last_first = mark_count - 2
@@ -70,11 +68,24 @@ Suits then.Raised (entry.Raised next) = Unit {0}
 Suits (then.Send due) (entry.Tried number next) = number ≡ due.number
 Suits (then.Recorded number) (entry.Recorded n) = n ≡ number
 Suits (then.Cancelled number tried) (entry.Cancelled n) = n ≡ number
+Suits (then.GoOn number tried due) (entry.Recorded n) = (n ≡ number) × ((limit : ℕ) × (tried ≡ entry.Tried due.number limit))
+Suits (then.SendNext recorded due) (entry.Tried number limit) = number ≡ due.number
 Suits next e = ⊥
 
--- How many entries may follow that one before the machine is at rest.
+-- The entry that is to be kept together with that one, if there is one.
+abbrev pub entry_with : Then → Option Entry
+entry_with (then.GoOn number tried due) = Some tried
+entry_with next = None
+
+abbrev pub entry_with_at : Stage → Option Entry
+entry_with_at (stage.Keeping e next) = entry_with next
+entry_with_at s = None
+
+-- How many entries may follow that one before the machine is at rest, or goes on with another receipt.
 abbrev pub entries_to_come : Then → ℕ
 entries_to_come (then.Send due) = 1
+entries_to_come (then.GoOn number tried due) = 2
+entries_to_come (then.SendNext recorded due) = 1
 entries_to_come (then.Take content) = 1
 entries_to_come next = 0
 
@@ -92,11 +103,17 @@ EndsFinally (stage.HangingUp n) = IsFinal n
 EndsFinally (stage.Telling n) = IsFinal n
 EndsFinally s = Unit {0}
 
+-- What is to be kept together with an entry may follow it.
+abbrev pub FitsWith : Book → List Entry → Entry → Then → Type 0
+FitsWith b es e (then.GoOn number tried due) = MayFollow (es ++ e ∷ []) tried × HasTryRoom b
+FitsWith b es e next = Unit {0}
+
 -- A stage fits these entries: what is to be kept may follow them; and it ends with what came of its call.
 abbrev pub Fits : Book → List Entry → Stage → Type 0
 Fits b es (stage.Connecting due) = MayTry es due × HasTryRoom b
 Fits b es (stage.Keeping e next) = MayFollow es e × Suits next e × (length es + entries_to_come next < most_entries) × ((content : Content) → e ≡ entry.Queued content → HasRoom b)
     × ((number next : ℕ) → e ≡ entry.Tried number next → HasTryRoom b) × ((content : Content) → next ≡ then.Take content → HasRoom b)
+    × FitsWith b es e next
 Fits b es (stage.Talking talk) = Waits es talk.number × (0 < times_tried es talk.number) × (length es < most_entries)
 Fits b es (stage.HangingUp n) = IsFinal n
 Fits b es (stage.Telling n) = IsFinal n
@@ -121,13 +138,17 @@ pub record IsStarted (m : MachineView) : Type 0 where
 
 -- ## What it asks for
 
--- What its owner is to be told while it talks: that the printer prints nothing for now.
-abbrev pub news_in : ℕ → Option Pause → Bool → Option TillNote
-news_in number (Some why) true = Some (note.Paused number why)
-news_in number why is_news = None
+-- What its owner is to be told while it talks: that the receipt before is recorded, and then that the printer prints nothing for now.
+abbrev pub pause_news : ℕ → Option Pause → Bool → Option TillNote
+pause_news number (Some why) true = Some (note.Paused number why)
+pause_news number why is_news = None
+
+abbrev pub news_in : Option ℕ → ℕ → Option Pause → Bool → Option TillNote
+news_in (Some recorded) number why is_news = Some (note.Recorded recorded)
+news_in None number why is_news = pause_news number why is_news
 
 abbrev pub news_of : Talk → Option TillNote
-news_of talk = news_in talk.number talk.paused.why talk.paused.is_news
+news_of talk = news_in talk.recorded talk.number talk.paused.why talk.paused.is_news
 
 abbrev pub IsPausing : Stage → Type 0
 IsPausing (stage.Talking talk) = talk.paused.why ≢ None
@@ -207,11 +228,17 @@ pub record IsNext (b : Book) (openings most : ℕ) (copy : Option (List ℕ)) (d
   pub first : (entries : List Entry) → IsBookOf b entries → IsDue entries copy due.number due.receipt
   pub within : b.next + marks_taken openings ≤ mark_count
 
+-- How the receipts after it are sent over the same link, if they are to be.
+abbrev pub further_of : Bool → ℕ → Option (List ℕ) → Option Further
+further_of true most copy = Some (record { most = most; copy = copy })
+further_of false most copy = None
+
 -- It is to connect for the first receipt that waits.
-pub record Delivers (m : MachineView) (openings most : ℕ) (copy : Option (List ℕ)) (after : MachineView) : Type 0 where
+pub record Delivers (m : MachineView) (openings most : ℕ) (copy : Option (List ℕ)) (further : Bool) (after : MachineView) : Type 0 where
   pub rest : m.stage ≡ stage.AtRest
   pub due : Due
   pub next : IsNext m.book openings most copy due
+  pub later : due.further ≡ further_of further most copy
   pub host : after.host ≡ m.host
   pub book : (entries : List Entry) → IsBookOf m.book entries → IsBookOf after.book entries
   pub connects : after.stage ≡ stage.Connecting due
@@ -267,22 +294,48 @@ Drops h after = (h.phase ≡ Down → after ≡ h) × (h.phase ≢ Down → afte
 
 -- A talk that begins; and the same one later.
 abbrev pub first_talk : Due → Talk
-first_talk due = record { number = due.number; receipt = Some due.receipt; left = due.most; paused = not_paused }
+first_talk due = record { number = due.number; receipt = Some due.receipt; left = due.most; paused = not_paused; further = due.further; recorded = None }
 
 abbrev pub with_left : Talk → ℕ → Talk
-with_left talk left = record { number = talk.number; receipt = talk.receipt; left = left; paused = talk.paused }
+with_left talk left =
+    record { number = talk.number; receipt = talk.receipt; left = left; paused = talk.paused; further = talk.further; recorded = talk.recorded }
 
 abbrev pub with_sent : Talk → ℕ → Talk
-with_sent talk left = record { number = talk.number; receipt = None; left = left; paused = talk.paused }
+with_sent talk left = record { number = talk.number; receipt = None; left = left; paused = talk.paused; further = talk.further; recorded = talk.recorded }
 
 abbrev pub with_pause : Talk → Paused → Talk
-with_pause talk p = record { number = talk.number; receipt = talk.receipt; left = talk.left; paused = p }
+with_pause talk p =
+    record { number = talk.number; receipt = talk.receipt; left = talk.left; paused = p; further = talk.further; recorded = talk.recorded }
+
+-- The talk of a receipt that is sent over the link of the one before, which is recorded.
+abbrev pub next_talk : ℕ → Due → Talk
+next_talk recorded due = record { number = due.number; receipt = None; left = due.most; paused = not_paused; further = due.further; recorded = Some recorded }
+
+-- Its owner knows what was news.
+abbrev pub after_news : Option ℕ → Talk → Talk
+after_news (Some recorded) talk =
+    record { number = talk.number; receipt = talk.receipt; left = talk.left; paused = talk.paused; further = talk.further; recorded = None }
+after_news None talk = with_pause talk (no_news talk.paused)
 
 -- A fresh host, whose first mark has this number, puts the opening marks out, after a request for automatic status; or it refuses to.
 abbrev pub Opens : Due → ℕ → HostView → Stage → Type 0
 Opens due first h s =
     ((h ≡ dialled_reporting (fresh first) (max due.openings 1)) × (s ≡ stage.Talking (first_talk due)))
     ⊎ ((why : HostError) × RefusesOpening why (fresh first) (max due.openings 1) h × (s ≡ stage.HangingUp (note.Waiting due.number (fault.Refused why))))
+
+-- A host whose link is open is given the receipt, after a request for automatic status; or it refuses one of them.
+abbrev pub Sends : List Command → HostView → HostView → Type 0
+Sends receipt before h = (before.phase ≡ Open []) × HasMark before × (h ≡ submitted (reports_asked before) [] receipt)
+
+abbrev pub RefusesSending : HostError → HostView → Type 0
+RefusesSending why h = RefusesAsk why h ⊎ ((h.phase ≡ Open []) × RefusesSubmit why (reports_asked h))
+
+-- The next receipt is sent over the link of the one before, which is recorded. Or the host refuses that: the link is given up, and the next
+-- receipt waits.
+abbrev pub SendsNext : ℕ → Due → HostView → HostView → Stage → Type 0
+SendsNext recorded due before h s =
+    (Sends due.receipt before h × (s ≡ stage.Talking (next_talk recorded due)))
+    ⊎ ((why : HostError) × RefusesSending why before × Drops before h × (s ≡ stage.HangingUp (note.Recorded recorded)))
 
 -- What follows once the entry is kept, where this host was there, and this mark number was the next; the book is the new one.
 abbrev pub Follows : Then → HostView → ℕ → Book → HostView → Stage → Type 0
@@ -292,6 +345,8 @@ Follows then.Raised before first b h s = (h ≡ before) × (s ≡ stage.Telling 
 Follows (then.Cancelled number tried) before first b h s = (h ≡ before) × (s ≡ stage.Telling (note.Cancelled number tried))
 Follows (then.Send due) before first b h s = Opens due first h s
 Follows (then.Recorded number) before first b h s = Drops before h × (s ≡ stage.HangingUp (note.Recorded number))
+Follows (then.GoOn number tried due) before first b h s = (h ≡ before) × (s ≡ stage.Keeping tried (then.SendNext number due))
+Follows (then.SendNext recorded due) before first b h s = SendsNext recorded due before h s
 
 -- The entry is kept.
 abbrev pub Kept : Stage → MachineView → MachineView → Type 0
@@ -306,6 +361,8 @@ lost then.Raised why = stage.Telling (note.NotKept why)
 lost (then.Cancelled number tried) why = stage.Telling (note.NotKept why)
 lost (then.Send due) why = stage.HangingUp (note.NotKept why)
 lost (then.Recorded number) why = stage.HangingUp (note.NotKept why)
+lost (then.GoOn number tried due) why = stage.HangingUp (note.NotKept why)
+lost (then.SendNext recorded due) why = stage.HangingUp (note.NotKept why)
 
 abbrev pub Unsure : Stage → StoreFault → MachineView → MachineView → Type 0
 Unsure (stage.Keeping e next) why m after = Drops m.host after.host × (after.book ≡ m.book) × (after.stage ≡ lost next why)
@@ -332,13 +389,6 @@ abbrev pub GoesOn : Talk → ℕ → HostView → HostView → Stage → Type 0
 GoesOn talk zero before h s = Drops before h × (s ≡ stage.HangingUp (note.Waiting talk.number fault.TooLong))
 GoesOn talk (suc left) before h s = (h ≡ before) × (s ≡ stage.Talking (with_left talk (suc left)))
 
--- A host whose link is open is given the receipt, after a request for automatic status; or it refuses one of them.
-abbrev pub Sends : List Command → HostView → HostView → Type 0
-Sends receipt before h = (before.phase ≡ Open []) × HasMark before × (h ≡ submitted (reports_asked before) [] receipt)
-
-abbrev pub RefusesSending : HostError → HostView → Type 0
-RefusesSending why h = RefusesAsk why h ⊎ ((h.phase ≡ Open []) × RefusesSubmit why (reports_asked h))
-
 -- The link is open: the receipt is sent, or refused.
 abbrev pub Submits : Talk → Option (List Command) → ℕ → HostView → HostView → Stage → Type 0
 Submits talk (Some receipt) (suc left) before h s =
@@ -361,7 +411,7 @@ Turns b event.None talk left before h s = GoesOn talk left before h s
 Turns b (event.Status byte) talk left before h s = GoesOn talk left before h s
 Turns b (event.Condition block) talk left before h s = Hears talk block left before h s
 Turns b event.Opened talk left before h s = Submits talk talk.receipt left before h s
-Turns b (event.Recorded place) talk left before h s = (h ≡ before) × (s ≡ printed talk.number)
+Turns b (event.Recorded place) talk left before h s = (h ≡ before) × ((s ≡ printed talk.number) ⊎ GoesFurther b talk.number talk.further before s)
 Turns b (event.Late id) talk left before h s =
     (ClosesTry b.tries.items talk.number id × (h ≡ before) × (s ≡ printed talk.number))
     ⊎ ((ClosesTry b.tries.items talk.number id → ⊥) × GoesOn talk left before h s)
@@ -372,10 +422,24 @@ abbrev pub HearsOne : HostView → List ℕ → ℕ → HostEvent → HostView �
 HearsOne h bytes consumed e after =
     (h.phase ≡ Down → (consumed ≡ length bytes) × (e ≡ event.None) × (after ≡ h)) × (h.phase ≢ Down → IsHeard h bytes consumed e after)
 
--- Bytes of answers came, and so many of them were heard.
+-- It is on a link: it talks, or is to keep what it has heard, or that the next receipt is tried over the same link.
+abbrev pub IsLinked : Stage → Type 0
+IsLinked (stage.Talking talk) = Unit {0}
+IsLinked (stage.Keeping e (then.Recorded number)) = Unit {0}
+IsLinked (stage.Keeping e (then.GoOn number tried due)) = Unit {0}
+IsLinked (stage.Keeping e (then.SendNext recorded due)) = Unit {0}
+IsLinked s = ⊥
+
+-- It is to go on with the next receipt over the same link.
+abbrev pub IsGoingOn : Stage → Type 0
+IsGoingOn (stage.Keeping e (then.GoOn number tried due)) = Unit {0}
+IsGoingOn s = ⊥
+
+-- Bytes of answers came, and so many of them were heard. It goes on with the next receipt only if all were: those that weren't are dropped.
 abbrev pub Came : Stage → List ℕ → ℕ → MachineView → MachineView → Type 0
 Came (stage.Talking talk) bytes consumed m after =
     (e : HostEvent) × (h : HostView) × HearsOne m.host bytes consumed e h × Turns m.book e talk (talk.left - consumed) h after.host after.stage × (after.book ≡ m.book)
+    × (IsGoingOn after.stage → consumed ≡ length bytes)
 Came s bytes consumed m after = (consumed ≡ length bytes) × (after ≡ m)
 
 -- What the end of a link means: a printer that pauses was waited for as long as may be.
@@ -404,5 +468,5 @@ after_note n = stage.AtRest
 
 abbrev pub told : Stage → MachineView → MachineView
 told (stage.Telling n) m = at m (after_note n)
-told (stage.Talking talk) m = at m (stage.Talking (with_pause talk (no_news talk.paused)))
+told (stage.Talking talk) m = at m (stage.Talking (after_news talk.recorded talk))
 told s m = m

@@ -2,14 +2,15 @@
 //!
 //! `specs/Book.antt` says what it is of the entries.
 
-ghost use Rattle.std.specs.Prelude.{◌≡◌, ℕ, ◌+◌, ◌^◌, ◌<◌, ◌≤◌, ◌↔◌, List, [], ◌++◌, length, slice_get, Some, IsTrue, OnOk, IfOk, IfSome, IsErrOf, MatchOption};
+ghost use Rattle.std.specs.Prelude.{◌≡◌, ℕ, ◌+◌, ◌^◌, ◌<◌, ◌≤◌, ◌↔◌, List, [], ◌∷◌, ◌++◌, length, slice_get, Some, IsTrue, OnOk, IfOk, IfSome, IsErrOf, MatchOption};
 ghost use Rattle.escpos_till.specs.declared.entry.Content.{Content};
 ghost use Rattle.escpos_till.specs.declared.entry.Entry.{Entry};
 ghost use Rattle.escpos_till.specs.declared.entry.Entry.TheVariants as entry_kind;
 ghost use Rattle.escpos_till.specs.declared.state.ReceiptState.{ReceiptState};
 ghost use Rattle.escpos_till.specs.declared.state.ReceiptState.TheVariants as state_kind;
+ghost use Rattle.escpos_till.specs.States.{IsEnded};
 ghost use Rattle.escpos_till.specs.Contents.{content_with};
-ghost use Rattle.escpos_till.specs.Book.{HasRoom, HasTryRoom, IsBookOf, NeedsNoRoom, Notes};
+ghost use Rattle.escpos_till.specs.Book.{HasRoom, HasTryRoom, IsBookOf, NeedsNoRoom, Notes, StandsAt};
 ghost use Rattle.escpos_till.specs.Entries.{HasKey, IsLedger, MayFollow, Waits, state_of, taken, times_tried, waiting};
 ghost use Rattle.escpos_till.specs.Delivers.{FirstWaits};
 ghost use Rattle.escpos_till.specs.Learning.{FollowAll, NotesAll};
@@ -18,7 +19,9 @@ use crate::entry::{Content, Entry};
 use crate::key::ReceiptKey;
 use crate::keyed::{Keyed, number_with};
 use crate::number::ReceiptNumber;
-use crate::state::{ReceiptState, first_waiting_from, once_cancelled, one_try_more, tries_in};
+use crate::state::{
+    ReceiptState, first_besides, first_waiting_from, once_cancelled, one_try_more, tries_in,
+};
 use crate::tries::Try;
 use crate::waiting::WaitingReceipt;
 use std::alloc::{AllocError, Global};
@@ -157,7 +160,25 @@ impl Book {
         ensures first { (entries : List Entry) → IsBookOf self.now entries → MatchOption result
             (waiting entries ≡ []) (λ first. FirstWaits entries first.number (content_with first.options first.content.now) first.tried) }
     {
-        let place = self.first_waiting;
+        self.waiting_at(self.first_waiting)
+    }
+
+    /// The first receipt that waits but for this one: that would be the first once this one is recorded. `None` if none does.
+    pub(crate) fn first_besides(&self, number: ReceiptNumber) -> Option<WaitingReceipt<'_>>
+        requires { (entries : List Entry) × IsBookOf self.now entries }
+        ensures first { (entries : List Entry) → IsBookOf self.now entries → MayFollow entries (entry_kind.Recorded number) → IfSome result (λ first.
+            FirstWaits (entries ++ entry_kind.Recorded number ∷ []) first.number (content_with first.options first.content.now) first.tried
+            × Waits (entries ++ entry_kind.Recorded number ∷ []) first.number) }
+    {
+        self.waiting_at(first_besides(&self.states, self.first_waiting, number.get() - 1))
+    }
+
+    // The receipt at this place, which waits, unless the place is past the end.
+    fn waiting_at(&self, place: usize) -> Option<WaitingReceipt<'_>>
+        requires waits { (s : ReceiptState) → slice_get self.now.states.items place ≡ Some s → IsEnded s → ⊥ }
+        requires contents { length self.now.contents.items ≡ length self.now.states.items }
+        ensures { MatchOption result (length self.now.states.items ≤ place) (λ first. StandsAt self.now place first.number (content_with first.options first.content.now) first.tried) }
+    {
         if place >= self.states.len() {
             return None;
         }
@@ -183,11 +204,20 @@ impl Book {
         self.keys.reserve(1)
     }
 
+    /// Whether there is room for one more try.
+    pub(crate) fn has_try_room(&self) -> bool
+        ensures { IsTrue result → HasTryRoom self.now }
+    {
+        self.tries.len() < self.tries.capacity()
+    }
+
     /// Makes room for one more try.
     pub(crate) fn reserve_try(&mut self) -> Result<(), AllocError>
         ensures room { OnOk result (HasTryRoom self.new) }
         ensures kept { HasRoom self.old → HasRoom self.new }
         ensures same { (entries : List Entry) → IsBookOf self.old entries → IsBookOf self.new entries }
+        ensures states { self.new.states ≡ self.old.states }
+        ensures next { self.new.next ≡ self.old.next }
     {
         self.tries.reserve(1)
     }
@@ -226,6 +256,7 @@ impl Book {
         requires try_room { (number next : ℕ) → entry ≡ entry_kind.Tried number next → HasTryRoom self.old }
         ensures notes { Notes self.old entry self.new }
         ensures room { NeedsNoRoom entry → HasRoom self.old → HasRoom self.new }
+        ensures try_room { (number : ℕ) → entry ≡ entry_kind.Recorded number → HasTryRoom self.old → HasTryRoom self.new }
     {
         match entry {
             Entry::Queued { content } => self.note_queued(content),
@@ -273,7 +304,8 @@ impl Book {
     // Takes into account that a receipt is recorded.
     fn note_recorded(&mut self, number: ReceiptNumber)
         requires follows { (entries : List Entry) × IsBookOf self.old entries × IsLedger entries × MayFollow entries (entry_kind.Recorded number) × (length entries < 2 ^ 63) }
-        ensures { Notes self.old (entry_kind.Recorded number) self.new }
+        ensures notes { Notes self.old (entry_kind.Recorded number) self.new }
+        ensures try_room { HasTryRoom self.old → HasTryRoom self.new }
     {
         let place = number.get() - 1;
         self.states[place] = ReceiptState::Recorded {

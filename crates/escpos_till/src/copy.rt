@@ -6,6 +6,7 @@ ghost use Rattle.std.specs.List.{AllPass};
 ghost use Rattle.std.specs.Option.{SomeIff};
 ghost use Rattle.escpos_till.specs.Copy.{IsCopyText, copy_line, is_copy_character};
 
+use arrayvec::ArrayVec;
 use escpos_command::{Align, Character, Command, Emphasis, laws};
 use escpos_receipt::Receipt;
 use std::alloc::{AllocError, Global};
@@ -53,6 +54,50 @@ impl<'a> CopyText<'a> {
         ensures is { IsCopyText result.now }
     {
         self.text
+    }
+}
+
+/// The text of a line that says that a receipt is printed again, kept. The model is the list of their bytes.
+#[derive(Debug, Drop)]
+pub struct CopyLine {
+    text: ArrayVec<u8, COPY_CHARACTERS>,
+}
+
+impl Model for CopyLine {
+    ghost use Rattle.std.specs.Prelude.{ℕ, List};
+    ghost use Rattle.escpos_till.specs.Copy.{IsCopyText};
+
+    ghost Value = { List ℕ };
+
+    ghost view = { λ t. t.text.items };
+
+    ghost invariant = { λ t. IsCopyText t.text.items };
+}
+
+impl CopyLine {
+    /// Keeps a text. Allocates nothing.
+    pub fn of(text: &CopyText<'_>) -> Self
+        ensures { result ≡ text.now }
+    {
+        match ArrayVec::try_from(text.text()) {
+            Ok(text) => CopyLine { text },
+            Err(_) => unreachable!(),
+        }
+    }
+
+    /// The text.
+    pub fn text(&self) -> CopyText<'_>
+        ensures same { result ≡ self.now }
+        ensures is { IsCopyText result }
+    {
+        CopyText::new(self.text.as_slice()).unwrap()
+    }
+
+    /// The same once more. Allocates nothing.
+    pub fn copy(&self) -> Self
+        ensures { result ≡ self.now }
+    {
+        CopyLine::of(&self.text())
     }
 }
 

@@ -3,12 +3,14 @@
 //! It acts on a store and a line to a printer, and returns what the machine's owner is to be told. `specs/Driver.antt` says what a
 //! run is.
 
-ghost use Rattle.std.specs.Prelude.{◌≡◌, ◌≢◌, ◌≤◌, ◌⊎◌, ℕ, List, [], None, IfSome};
+ghost use Rattle.std.specs.Prelude.{◌≡◌, ◌≢◌, ◌≤◌, ◌⊎◌, ℕ, List, [], None, is_some, IfSome};
 ghost use Rattle.escpos_host.specs.Machine.{IsSound};
 ghost use Rattle.escpos_till.specs.declared.machine.Stage.TheVariants as stage;
 ghost use Rattle.escpos_till.specs.declared.machine.Talk.{Talk};
-ghost use Rattle.escpos_till.specs.Driver.{Deed, IsGiven, IsSaid, IsTelling, RanQuietly, RanUpTo, Turns};
-ghost use Rattle.escpos_till.specs.Machine.{Rests, news_of};
+ghost use Rattle.escpos_till.specs.declared.entry.Entry.{Entry};
+ghost use Rattle.escpos_till.specs.declared.machine.Then.{Then};
+ghost use Rattle.escpos_till.specs.Driver.{Deed, IsGiven, IsSaid, IsTelling, KeepsOne, RanQuietly, RanUpTo, Turns};
+ghost use Rattle.escpos_till.specs.Machine.{Rests, entry_with, entry_with_at, news_of};
 ghost use Rattle.escpos_till.specs.Surroundings.{Did};
 
 use crate::machine::{Action, TillMachine, TillNote};
@@ -94,13 +96,17 @@ fn act<S: Store, L: PrinterLine>(
 {
     match machine.asks() {
         Action::Nothing => return Turned::Rests,
-        Action::Append(entry) => match around.append(entry) {
-            Ok(Appended::Done) => machine.appended(Ok(())),
-            Ok(Appended::Others(others)) => {
-                let _ = machine.learned(&others);
+        Action::Append(entry) => {
+            let with = machine.asks_with();
+            let both = with.is_some();
+            match around.append(entry, with) {
+                Ok(Appended::Done) => kept(machine, both),
+                Ok(Appended::Others(others)) => {
+                    let _ = machine.learned(&others);
+                }
+                Err(why) => machine.appended(Err(why)),
             }
-            Err(why) => machine.appended(Err(why)),
-        },
+        }
         Action::Connect => {
             let is = around.connect();
             machine.connected(is);
@@ -112,7 +118,7 @@ fn act<S: Store, L: PrinterLine>(
             machine.hung_up();
         }
         Action::Tell(note) => {
-            // Proof only: it is what came of a call, or a pause; and to tell it leaves what is around as it is.
+            // Proof only: it is what came of a call, or news of a talk; and to tell it leaves what is around as it is.
             machine.is_sound();
             machine.told();
             around.tells();
@@ -120,6 +126,19 @@ fn act<S: Store, L: PrinterLine>(
         }
     }
     Turned::Done
+}
+
+// The entry that the machine asked for is kept, and if both are, the one that was to be kept with it.
+fn kept(machine: &mut TillMachine, both: bool)
+    requires { both ≡ is_some (entry_with_at machine.old.stage) }
+    ensures { (e : Entry) (next : Then) → machine.old.stage ≡ stage.Keeping e next → KeepsOne machine.old e machine.new (entry_with next) }
+{
+    machine.appended(Ok(()));
+    if both {
+        // Proof only: what holds of every host.
+        machine.is_sound();
+        machine.appended(Ok(()));
+    }
 }
 
 // Puts the next bytes.

@@ -8,11 +8,14 @@ ghost use Rattle.escpos_till.specs.declared.entry.Entry.{Entry};
 ghost use Rattle.escpos_till.specs.declared.machine.Stage.TheVariants as stage;
 ghost use Rattle.escpos_till.specs.Book.{HasTryRoom, IsBookOf};
 ghost use Rattle.escpos_till.specs.Entries.{IsLedger};
-ghost use Rattle.escpos_till.specs.Learning.{AreOthers, IsDelivering, IsOthers, NotLearned, NotesAll, Revises, StandsIn, WaitsOrCancelled};
-ghost use Rattle.escpos_till.specs.Machine.{Drops, most_entries};
+ghost use Rattle.escpos_till.specs.Delivers.{most_entries};
+ghost use Rattle.escpos_till.specs.Further.{GoesFurther};
+ghost use Rattle.escpos_till.specs.Learning.{AreOthers, EndsCancelled, IsDelivering, IsOthers, NotLearned, NotesAll, Revises, StandsIn, WaitsIn, WaitsOrCancelled};
+ghost use Rattle.escpos_till.specs.Machine.{Drops, printed};
 
 use crate::book::{Book, MOST_ENTRIES, NoBook};
 use crate::entry::Entry;
+use crate::further::{Further, printed_or_further};
 use crate::machine::{Due, MARK_COUNT, Stage, Then, TillNote, marks_taken};
 use crate::memory_store::copies;
 use crate::number::ReceiptNumber;
@@ -48,7 +51,10 @@ fn are_others(entries: &[Entry]) -> bool
 fn delivers(then: &Then) -> bool
     ensures { IsTrue result ↔ IsDelivering then.now }
 {
-    matches!(then, Then::Send(_) | Then::Recorded(_))
+    matches!(
+        then,
+        Then::Send(_) | Then::Recorded(_) | Then::GoOn { .. } | Then::SendNext { .. }
+    )
 }
 
 // Whether these entries are those.
@@ -150,14 +156,20 @@ fn room_for_more(book: &mut Book) -> Result<(), StoreFault>
 }
 
 /// What is to be kept now, or what comes instead, where this was to follow.
-pub(crate) fn revised(book: &Book, host: &mut Host, then: Then) -> Stage
+pub(crate) fn revised(alloc: Global, book: &Book, host: &mut Host, then: Then) -> Stage
     requires delivers { IsDelivering then }
     requires stands { WaitsOrCancelled book.now then }
+    requires book { (entries : List Entry) × IsBookOf book.now entries }
     ensures { Revises then book.now host.old host.new result }
 {
     match then {
         Then::Send(due) => tried_now(book, host, due),
         Then::Recorded(number) => recorded_now(book, host, number),
+        Then::GoOn { recorded, due, .. } => further_now(alloc, book, host, recorded, due.further),
+        Then::SendNext { recorded, .. } => {
+            host.link_down();
+            Stage::HangingUp(TillNote::Recorded(recorded))
+        }
         Then::Queued | Then::Take(_) | Then::Raised | Then::Cancelled { .. } => unreachable!(),
     }
 }
@@ -201,6 +213,29 @@ fn recorded_now(book: &Book, host: &mut Host, number: ReceiptNumber) -> Stage
             entry: Entry::Recorded { number },
             then: Then::Recorded(number),
         },
+        Some(ReceiptState::Cancelled { tried }) => cancelled_now(host, number, tried),
+        Some(ReceiptState::Recorded { .. }) => unreachable!(),
+        None => unreachable!(),
+    }
+}
+
+// That a receipt is recorded, and with it the try of the next one, if that may still be sent over the same link.
+fn further_now(
+    alloc: Global,
+    book: &Book,
+    host: &mut Host,
+    number: ReceiptNumber,
+    further: Option<Further>,
+) -> Stage
+    requires stands { StandsIn book.now number }
+    requires book { (entries : List Entry) × IsBookOf book.now entries }
+    ensures { ((WaitsIn book.now number × (host.new ≡ host.old) × ((result ≡ printed number) ⊎ GoesFurther book.now number further host.old result))
+        ⊎ EndsCancelled book.now number host.old host.new result) }
+{
+    match book.state(number) {
+        Some(ReceiptState::Waiting { .. }) => {
+            printed_or_further(alloc, book, host, number, &further, true)
+        }
         Some(ReceiptState::Cancelled { tried }) => cancelled_now(host, number, tried),
         Some(ReceiptState::Recorded { .. }) => unreachable!(),
         None => unreachable!(),

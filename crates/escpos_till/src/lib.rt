@@ -2,14 +2,15 @@
 //!
 //! `entry`, `key`, `state` and `waiting` have what a ledger says, `keyed` which receipt has a key, `laws` the laws of keys, `book` what a
 //! machine knows of it, and `store` where its entries are kept. `machine` is the till itself, over values alone, `talking` what it does
-//! with a printer on a link, and `learning` what it does with entries that others have added; `driver` does what it asks for, over the
-//! store and the line of `surroundings`.
+//! with a printer on a link, `further` how it goes on with the next receipt over the same link, and `learning` what it does with entries that
+//! others have added; `driver` does what it asks for, over the store and the line of `surroundings`.
 #![tactic(auto)]
 
 mod book;
 mod copy;
 mod driver;
 mod entry;
+mod further;
 mod key;
 mod keyed;
 pub mod laws;
@@ -26,9 +27,10 @@ mod talking;
 mod tries;
 mod waiting;
 
-pub use copy::{COPY_CHARACTERS, CopyText};
+pub use copy::{COPY_CHARACTERS, CopyLine, CopyText};
 pub use driver::{drive, drive_within};
 pub use entry::{Content, Entry, Text};
+pub use further::Further;
 pub use key::{KEY_CHARACTERS, ReceiptKey};
 pub use keyed::Keyed;
 pub use learning::others_since;

@@ -8,31 +8,37 @@
 //!   AtRest     | nothing                    | queue, raise, cancel | Keeping an entry; Telling, if a receipt's key is known
 //!              |                            | deliver              | Connecting
 //!   Connecting | a link to the printer      | connected, or not    | Keeping that it is tried; Telling
-//!   Keeping    | an entry to be kept        | appended             | Keeping the entry after it; Telling; Talking; HangingUp
+//!   Keeping    | an entry to be kept; with  | appended             | Keeping the entry after it; Telling; Talking; HangingUp
+//!              | another one, if one is to  |                      |
+//!              | be (asks_with)             |                      |
 //!   Talking    | its owner to be told that  | told                 | Talking
-//!              | the printer pauses; bytes  | take_out             | Talking
-//!              | to be put, while there are | came                 | Talking; Keeping that it is recorded; HangingUp
-//!              | some; then for answers     | link_ended           | HangingUp
+//!              | the receipt before is      | take_out             | Talking
+//!              | recorded, and that the     | came                 | Talking; Keeping that it is recorded; HangingUp
+//!              | printer pauses; bytes to   | link_ended           | HangingUp
+//!              | be put, while there are    |                      |
+//!              | some; then for answers     |                      |
 //!   HangingUp  | the link to be given up    | hung_up              | Telling
 //!   Telling    | its owner to be told       | told                 | AtRest; Failed where the store couldn't keep an entry
 //!   Failed     | nothing                    | nothing              | Failed: a new machine is made from the entries
 //!
 //! Before a byte of a receipt goes out, an entry is kept that says that it is tried, with the mark numbers that its link may
-//! use; and a receipt is recorded only where the host has recorded it. `specs/Machine.antt` says what each call does.
+//! use; and a receipt is recorded only where the host has recorded it. Where the next receipt goes over the same link, both are kept as one. `specs/Machine.antt` says what each call does.
 
 ghost use Rattle.std.specs.Prelude.{◌≡◌, ◌≢◌, ◌↔◌, ◌-◌, ◌++◌, ◌<◌, ◌≤◌, ◌^◌, ℕ, List, length, take, drop, min, option_map, Ok, IfOk, IfErr, MatchOption, OnOk, IsErrOf, IsTrue};
 ghost use Rattle.escpos_till.specs.declared.entry.Entry.{Entry};
 ghost use Rattle.escpos_till.specs.Entries.{IsLedger, states as states_of};
-ghost use Rattle.escpos_till.specs.Book.{IsBookOf, Notes};
+ghost use Rattle.escpos_till.specs.Book.{HasRoom, HasTryRoom, IsBookOf, Notes};
+ghost use Rattle.escpos_till.specs.declared.machine.Due.{Due};
 ghost use Rattle.escpos_host.specs.Machine.{IsSound};
 ghost use Rattle.escpos_till.specs.Delivers.{fresh, marks_taken};
 ghost use Rattle.escpos_till.specs.Learning.{FailsToLearn, IfKeeping, Learned, LearnsAll};
 ghost use Rattle.escpos_till.specs.declared.machine.Talk.{Talk};
-ghost use Rattle.escpos_till.specs.Machine.{Asks, AsksIn, Came, Cancels, Delivers, Ended, EndsFinally, Fits, Follows, IsKnown, IsNew, IsNext, IsPausing, IsStarted, Kept, MayTry, Queues, Raises, RefusesAny, RefusesCancel, RefusesDeliver, RefusesRaise, Rests, SameEntries, SendsReceipt, Unsure, connected, ended_by, first_talk, hung_up, lost, news_of, not_connected, put, taking, told};
+ghost use Rattle.escpos_till.specs.Machine.{Asks, AsksIn, Came, Cancels, Delivers, Ended, EndsFinally, Fits, Follows, IsKnown, IsLinked, IsNew, IsNext, IsPausing, IsStarted, Kept, MayTry, Queues, Raises, RefusesAny, RefusesCancel, RefusesDeliver, RefusesRaise, Rests, SameEntries, SendsReceipt, Unsure, connected, after_news, ended_by, entry_with_at, first_talk, further_of, hung_up, lost, news_of, not_connected, put, taking, told};
 
 use crate::book::{Book, MOST_ENTRIES, NoBook};
-use crate::copy::CopyText;
+use crate::copy::{CopyLine, CopyText};
 use crate::entry::{Content, Entry};
+use crate::further::Further;
 use crate::key::ReceiptKey;
 use crate::learning::{learn, revised};
 use crate::number::ReceiptNumber;
@@ -40,7 +46,7 @@ use crate::pause::{Pause, Paused};
 use crate::receipt_content::ReceiptContent;
 use crate::state::ReceiptState;
 use crate::store::StoreFault;
-use crate::talking::{less, opened, turned};
+use crate::talking::{less, opened, sent_next, turned};
 use escpos_host::{Host, SendFault};
 use escpos_receipt::{JsonError, JsonFault, Receipt};
 use std::alloc::Global;
@@ -69,7 +75,7 @@ pub enum TillNote {
         number: ReceiptNumber,
         tried: usize,
     },
-    /// The receipt is printed, and recorded.
+    /// The receipt is printed, and recorded. That may be told while the next one is being sent.
     Recorded(ReceiptNumber),
     /// There was no link. The receipt waits, and wasn't tried.
     NoLink(ReceiptNumber),
@@ -167,6 +173,8 @@ pub struct Due {
     pub openings: u32,
     /// How many bytes of answers are read at most.
     pub most: u32,
+    /// How the receipts after it are sent over the same link, if they are to be.
+    pub further: Option<Further>,
 }
 
 /// A receipt that is being sent.
@@ -180,6 +188,10 @@ pub struct Talk {
     pub left: u32,
     /// What the printer has told of its condition.
     pub paused: Paused,
+    /// How the receipts after it are sent over the same link, if they are to be.
+    pub further: Option<Further>,
+    /// The receipt before it, which is recorded, if the machine's owner is still to be told of that.
+    pub recorded: Option<ReceiptNumber>,
 }
 
 /// What follows once an entry is kept.
@@ -197,6 +209,14 @@ pub enum Then {
     Send(Due),
     /// A receipt is recorded.
     Recorded(ReceiptNumber),
+    /// A receipt is recorded, and by that entry, which is kept next, the one is tried that is sent over the same link.
+    GoOn {
+        recorded: ReceiptNumber,
+        tried: Entry,
+        due: Due,
+    },
+    /// A receipt is sent over the link of the one before, which is recorded.
+    SendNext { recorded: ReceiptNumber, due: Due },
 }
 
 /// Where a machine stands.
@@ -230,6 +250,8 @@ impl Talk {
             receipt: Some(due.receipt),
             left: due.most,
             paused: Paused::not(),
+            further: due.further,
+            recorded: None,
         }
     }
 
@@ -237,6 +259,9 @@ impl Talk {
     fn news(&self) -> Option<TillNote>
         ensures { result ≡ news_of self.now }
     {
+        if let Some(recorded) = self.recorded {
+            return Some(TillNote::Recorded(recorded));
+        }
         match self.paused {
             Paused {
                 why: Some(why),
@@ -246,6 +271,17 @@ impl Talk {
                 why,
             }),
             _ => None,
+        }
+    }
+
+    // Its owner knows what was news.
+    fn told(&mut self)
+        ensures { self.new ≡ after_news self.old.recorded self.old }
+    {
+        if self.recorded.is_some() {
+            self.recorded = None;
+        } else {
+            self.paused.is_news = false;
         }
     }
 
@@ -287,7 +323,7 @@ impl TillMachine {
         match Book::of(alloc, entries) {
             Ok(book) => Ok(TillMachine {
                 alloc,
-                host: Host::new(alloc, book.next),
+                host: fresh_host(alloc, book.next),
                 book,
                 stage: Stage::AtRest,
             }),
@@ -307,6 +343,20 @@ impl TillMachine {
             Stage::Talking(talk) => self.asks_in(talk),
             Stage::HangingUp(_) => Action::HangUp,
             Stage::Telling(note) => Action::Tell(*note),
+        }
+    }
+
+    /// The entry that is to be kept together with the one that it asks for, so that a crash leaves both or neither. Where both are kept, it is told
+    /// `appended` twice. They may also be kept one after the other.
+    pub fn asks_with(&self) -> Option<&Entry>
+        ensures { option_map (λ e. e.now) result ≡ entry_with_at self.now.stage }
+    {
+        match &self.stage {
+            Stage::Keeping {
+                then: Then::GoOn { tried, .. },
+                ..
+            } => Some(tried),
+            _ => None,
         }
     }
 
@@ -346,6 +396,20 @@ impl TillMachine {
         ensures { IsTrue result ↔ ((talk : Talk) × (self.now.stage ≡ Stage.Talking talk)) }
     {
         matches!(self.stage, Stage::Talking(_))
+    }
+
+    /// Whether it is on a link: it talks, or is to keep what it has heard, or that the next receipt is tried over the same link.
+    pub fn is_linked(&self) -> bool
+        ensures { IsTrue result ↔ IsLinked self.now.stage }
+    {
+        match &self.stage {
+            Stage::Talking(_) => true,
+            Stage::Keeping { then, .. } => matches!(
+                then,
+                Then::Recorded(_) | Then::GoOn { .. } | Then::SendNext { .. }
+            ),
+            _ => false,
+        }
     }
 
     /// Takes a receipt: it is to be kept. If it comes with a key, that is to be kept before it; but if the ledger has a receipt with
@@ -436,7 +500,10 @@ impl TillMachine {
     }
 
     /// Delivers the first receipt that waits, over a link with so many opening marks (0 counts as 1), on which at most `most` bytes of
-    /// answers are read. `copy` is the text of a line that is put before a receipt that was tried before.
+    /// answers are read. `copy` is the text of a line that is put before a receipt that was tried before. If `further` is true, the receipts
+    /// that wait after it are sent over the same link, one after another, each with at most `most` bytes of answers: that one is recorded is
+    /// told then while the next one is being sent. A receipt that can't go over that link waits, and ends the call: that the one before is
+    /// recorded is told at the end.
     ///
     /// The errors are `Busy`, `Failed`, `Memory`, `NothingWaits`, `NoReceipt` and `MarksUsedUp`.
     pub fn deliver(
@@ -444,11 +511,12 @@ impl TillMachine {
         openings: u32,
         copy: Option<&CopyText<'_>>,
         most: u32,
+        further: bool,
     ) -> Result<(), TillRefusal>
-        ensures delivers { OnOk result (Delivers self.old openings most (option_map (λ t. t.now) copy.entry) self.new) }
+        ensures delivers { OnOk result (Delivers self.old openings most (option_map (λ t. t.now) copy.entry) further self.new) }
         ensures refused { IfErr result (λ why. RefusesDeliver self.old openings why × SameEntries self.old self.new) }
     {
-        let due = self.next_due(openings, copy, most)?;
+        let due = self.next_due(openings, copy, most, further)?;
         if self.book.reserve_try().is_err() {
             return Err(TillRefusal::Memory);
         }
@@ -462,8 +530,10 @@ impl TillMachine {
         openings: u32,
         copy: Option<&CopyText<'_>>,
         most: u32,
+        further: bool,
     ) -> Result<Due, TillRefusal>
         ensures rest { IfOk result (λ _. self.now.stage ≡ Stage.AtRest) }
+        ensures further { IfOk result (λ due. due.further ≡ further_of further most (option_map (λ t. t.now) copy.entry)) }
         ensures next { IfOk result (λ due. IsNext self.now.book openings most (option_map (λ t. t.now) copy.entry) due) }
         ensures fits { IfOk result (λ due. (entries : List Entry) → IsBookOf self.now.book entries → MayTry entries due) }
         ensures refused { IfErr result (λ why. RefusesDeliver self.now openings why) }
@@ -490,6 +560,7 @@ impl TillMachine {
             receipt,
             openings,
             most,
+            further: further_of(further, most, copy),
         })
     }
 
@@ -530,6 +601,7 @@ impl TillMachine {
     {
         let first = self.book.next;
         self.book.note(entry);
+        reserve_next(&mut self.book, &then);
         self.stage = following(self.alloc, &self.book, &mut self.host, first, then);
     }
 
@@ -564,7 +636,7 @@ impl TillMachine {
             self.stage = lost(then, why);
             return Err(why);
         }
-        self.stage = revised(&self.book, &mut self.host, then);
+        self.stage = revised(self.alloc, &self.book, &mut self.host, then);
         Ok(())
     }
 
@@ -610,7 +682,8 @@ impl TillMachine {
             Stage::Talking(talk) => {
                 let heard = self.host.heard(bytes);
                 let left = less(talk.left, heard.consumed);
-                self.stage = turned(&self.book, &mut self.host, heard.event, talk, left);
+                let all = heard.consumed == bytes.len();
+                self.stage = turned(self.alloc, &self.book, &mut self.host, heard.event, talk, left, all);
                 heard.consumed
             }
             other => {
@@ -649,7 +722,7 @@ impl TillMachine {
         match &mut self.stage {
             Stage::Telling(TillNote::NotKept(_)) => self.stage = Stage::Failed,
             Stage::Telling(_) => self.stage = Stage::AtRest,
-            Stage::Talking(talk) => talk.paused.is_news = false,
+            Stage::Talking(talk) => talk.told(),
             _ => {}
         }
     }
@@ -682,6 +755,19 @@ impl TillMachine {
     }
 }
 
+// Makes room for the try of a receipt that may go over the link of one that is sent now. Where there is none, no receipt does.
+fn reserve_next(book: &mut Book, then: &Then)
+    ensures same { (entries : List Entry) → IsBookOf book.old entries → IsBookOf book.new entries }
+    ensures kept { HasRoom book.old → HasRoom book.new }
+    ensures try_kept { (number : ℕ) (tried : Entry) (due : Due) → then.now ≡ Then.GoOn number tried due → HasTryRoom book.old → HasTryRoom book.new }
+    ensures count { length book.new.states.items ≡ length book.old.states.items }
+    ensures next { book.new.next ≡ book.old.next }
+{
+    if let Then::Send(_) | Then::SendNext { .. } = then {
+        let _ = book.reserve_try();
+    }
+}
+
 // What is to be kept first of a receipt with this content, which comes with this key or with none.
 fn taking(book: &Book, key: Option<ReceiptKey>, content: Content) -> Stage
     ensures { result ≡ taking key book.now.last_key book.now.next content }
@@ -710,7 +796,9 @@ fn lost(then: Then, why: StoreFault) -> Stage
         Then::Queued | Then::Take(_) | Then::Raised | Then::Cancelled { .. } => {
             Stage::Telling(TillNote::NotKept(why))
         }
-        Then::Send(_) | Then::Recorded(_) => Stage::HangingUp(TillNote::NotKept(why)),
+        Then::Send(_) | Then::Recorded(_) | Then::GoOn { .. } | Then::SendNext { .. } => {
+            Stage::HangingUp(TillNote::NotKept(why))
+        }
     }
 }
 
@@ -728,14 +816,39 @@ fn following(alloc: Global, book: &Book, host: &mut Host, first: u32, then: Then
         Then::Raised => Stage::Telling(TillNote::Raised),
         Then::Cancelled { number, tried } => Stage::Telling(TillNote::Cancelled { number, tried }),
         Then::Send(due) => {
-            *host = Host::new(alloc, first);
+            *host = fresh_host(alloc, first);
             opened(host, due)
         }
         Then::Recorded(number) => {
             host.link_down();
             Stage::HangingUp(TillNote::Recorded(number))
         }
+        Then::GoOn {
+            recorded,
+            tried,
+            due,
+        } => Stage::Keeping {
+            entry: tried,
+            then: Then::SendNext { recorded, due },
+        },
+        Then::SendNext { recorded, due } => sent_next(host, recorded, due),
     }
+}
+
+// How the receipts after one are sent over the same link, if they are to be.
+fn further_of(further: bool, most: u32, copy: Option<&CopyText<'_>>) -> Option<Further>
+    ensures { result ≡ further_of further most (option_map (λ t. t.now) copy.entry) }
+{
+    if !further {
+        return None;
+    }
+    Some(Further {
+        most,
+        copy: match copy {
+            Some(text) => Some(CopyLine::of(text)),
+            None => None,
+        },
+    })
 }
 
 /// How many mark numbers a try takes: one for each opening mark, at least one, and one for the closing mark. If that can't be counted,
@@ -744,4 +857,11 @@ pub(crate) fn marks_taken(openings: u32) -> u32
     ensures { result ≡ min (marks_taken openings) (2 ^ 32 - 1) }
 {
     openings.max(1).saturating_add(1)
+}
+
+// A host that has sent nothing yet, and doesn't know which marks of older hosts are answered.
+fn fresh_host(alloc: Global, first: u32) -> Host
+    ensures { result ≡ fresh first }
+{
+    Host::resume(alloc, first, 0, Vec::new(alloc))
 }

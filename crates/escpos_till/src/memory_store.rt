@@ -1,6 +1,7 @@
 //! A store in memory, for tests and for the simulated till. It keeps what a crash may leave, and fails when it is told to.
 
-ghost use Rattle.std.specs.Prelude.{◌≡◌, ◌⊎◌, List, [], ◌∷◌, ◌++◌, IfOk, OnOk, OnErr};
+ghost use Rattle.std.specs.Prelude.{◌≡◌, ◌⊎◌, List, [], ◌++◌, option_map, IfOk, OnOk, OnErr};
+ghost use Rattle.escpos_till.specs.Appending.{added};
 ghost use Rattle.escpos_till.specs.declared.entry.Entry.{Entry};
 
 use crate::entry::Entry;
@@ -13,9 +14,9 @@ use std::marker::Model;
 pub enum Failure {
     /// At none.
     Never,
-    /// After so many calls that succeed, and before the entry is kept.
+    /// After so many calls that succeed, and before anything is kept.
     BeforeKeeping { calls: usize },
-    /// After so many calls that succeed, and when the entry is kept.
+    /// After so many calls that succeed, and when all is kept.
     AfterKeeping { calls: usize },
 }
 
@@ -56,7 +57,24 @@ impl MemoryStore {
         entries
     }
 
-    // Whether the next call of `append` fails, and if so, whether the entry is kept; one call fewer is to succeed then.
+    // Adds an entry, and another one, if one is given: both or neither.
+    fn add(&mut self, entry: &Entry, after: Option<&Entry>) -> Result<(), AllocError>
+        ensures added { OnOk result (self.new ≡ self.old ++ added entry.now (option_map (λ e. e.now) after.entry)) }
+        ensures none { OnErr result (self.new ≡ self.old) }
+    {
+        let entry = entry.copy(self.alloc)?;
+        self.entries.reserve(2)?;
+        if let Some(after) = after {
+            let after = after.copy(self.alloc)?;
+            self.entries.push_reserved(entry);
+            self.entries.push_reserved(after);
+        } else {
+            self.entries.push_reserved(entry);
+        }
+        Ok(())
+    }
+
+    // Whether the next call of `append` fails, and if so, whether what was to be added is kept; one call fewer is to succeed then.
     fn next_failure(&mut self) -> Failure
         ensures { self.new ≡ self.old }
     {
@@ -84,15 +102,12 @@ impl Store for MemoryStore {
     // Whatever it was told to, and memory: the model knows of neither.
     ghost says = { λ s added why new. Unit {0} };
 
-    fn append(&mut self, entry: &Entry) -> Result<Appended, StoreFault> {
+    fn append(&mut self, entry: &Entry, after: Option<&Entry>) -> Result<Appended, StoreFault> {
         let failure = self.next_failure();
         if let Failure::BeforeKeeping { calls: 0 } = failure {
             return Err(StoreFault::Failed);
         }
-        let Ok(entry) = entry.copy(self.alloc) else {
-            return Err(StoreFault::Memory);
-        };
-        if self.entries.push(entry).is_err() {
+        if self.add(entry, after).is_err() {
             return Err(StoreFault::Memory);
         }
         if let Failure::AfterKeeping { calls: 0 } = failure {

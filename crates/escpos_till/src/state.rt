@@ -4,7 +4,7 @@
 
 ghost use Rattle.std.specs.Prelude.{◌≡◌, ℕ, ◌+◌, ◌^◌, ◌<◌, ◌≤◌, length, slice_get, Some};
 ghost use Rattle.escpos_till.specs.declared.state.ReceiptState.TheVariants as state_kind;
-ghost use Rattle.escpos_till.specs.States.{IsFirstWaiting, IsEnded, tries_in};
+ghost use Rattle.escpos_till.specs.States.{IsFirstBesides, IsFirstWaiting, IsNextWaiting, IsEnded, tries_in};
 
 /// Where a receipt of a ledger stands.
 #[derive(Clone, Copy, Debug, PartialEq, Eq)]
@@ -23,6 +23,14 @@ pub(crate) fn first_waiting_from(states: &[ReceiptState], from: usize) -> usize
     requires passed { (k : ℕ) (s : _) → k < from → slice_get states.now k ≡ Some s → IsEnded s }
     ensures { IsFirstWaiting states.now result }
 {
+    next_waiting_from(states, from)
+}
+
+// The first of these states from this place on that waits; past the end if none does.
+pub(crate) fn next_waiting_from(states: &[ReceiptState], from: usize) -> usize
+    requires within { from ≤ length states.now }
+    ensures { IsNextWaiting states.now from result }
+{
     let mut at = from;
     while let Some(ReceiptState::Recorded { .. } | ReceiptState::Cancelled { .. }) = states.get(
         at,
@@ -30,6 +38,17 @@ pub(crate) fn first_waiting_from(states: &[ReceiptState], from: usize) -> usize
         at += 1;
     }
     at
+}
+
+// The first of these states that waits but for that at `skipped`, where the first that waits is at `first`; past the end if none does.
+pub(crate) fn first_besides(states: &[ReceiptState], first: usize, skipped: usize) -> usize
+    requires { IsFirstWaiting states.now first }
+    ensures { IsFirstBesides states.now skipped result }
+{
+    if skipped == first && skipped < states.len() {
+        return next_waiting_from(states, skipped + 1);
+    }
+    first
 }
 
 // The state of a receipt that waits, when it is tried once more.

@@ -7,9 +7,9 @@
 //! A crash in the middle of a call is seen as a call that isn't answered with `Ok`: what it leaves is what a crash may leave
 //! after `Err`.
 
-ghost use Rattle.std.specs.Prelude.{◌≡◌, ◌⊎◌, List, [], ◌∷◌, ◌++◌, IfErr, IfOk, OnErr};
+ghost use Rattle.std.specs.Prelude.{◌≡◌, ◌⊎◌, List, [], ◌++◌, option_map, IfErr, IfOk, OnErr};
 ghost use Rattle.escpos_till.specs.declared.entry.Entry.{Entry};
-ghost use Rattle.escpos_till.specs.Appending.{IfDone, IfOthers};
+ghost use Rattle.escpos_till.specs.Appending.{IfDone, IfOthers, added};
 ghost use Rattle.escpos_till.specs.Learning.{AreOthers};
 ghost use Rattle.escpos_till.specs.declared.store.StoreFault.{StoreFault as Why};
 
@@ -38,12 +38,12 @@ pub enum NoStore {
     Memory,
 }
 
-/// What came of an entry that a store was to add.
+/// What came of what a store was to add.
 #[derive(Debug, Drop)]
 pub enum Appended {
-    /// The store has it, after those that it held.
+    /// The store has it, after what it held.
     Done,
-    /// The store doesn't have it: others have added these entries before, which it holds now after those that it held.
+    /// The store has none of it: others have added these entries before, which it holds now after those that it held.
     Others(Vec<Entry>),
 }
 
@@ -65,17 +65,18 @@ pub trait Store {
     // none where they were to be read.
     ghost says: { Self → List Entry → Why → Self → Type 0 };
 
-    /// Adds an entry after those that are there. At `Done` it would outlive a crash. If others have added entries since, it isn't added, and
-    /// the answer is `Others` with those; then it may be added by another call. At `Err` it may have been added or not.
-    fn append(&mut self, entry: &Entry) -> Result<Appended, StoreFault>
+    /// Adds an entry after those that are there, and another one after it, if one is given: both or neither. At `Done` they would outlive a
+    /// crash. If others have added entries since, nothing is added, and the answer is `Others` with those; then another call may add it. At
+    /// `Err` it may have been added or not.
+    fn append(&mut self, entry: &Entry, after: Option<&Entry>) -> Result<Appended, StoreFault>
         ensures was_faithful { faithful self.new → faithful self.old }
         ensures kept { IfOk result (λ it. IfDone it (faithful self.new → (entries : List Entry) → holds self.old entries
-            → holds self.new (entries ++ entry.now ∷ []))) }
+            → holds self.new (entries ++ added entry.now (option_map (λ e. e.now) after.entry)))) }
         ensures others { IfOk result (λ it. IfOthers it (λ others. faithful self.new → (entries : List Entry) → holds self.old entries
             → AreOthers entries others × holds self.new (entries ++ others))) }
         ensures kept_or_not { OnErr result (faithful self.new → (entries left : List Entry) → holds self.old entries
-            → leaves self.new left → (left ≡ entries) ⊎ (left ≡ entries ++ entry.now ∷ [])) }
-        ensures says { IfErr result (λ why. says self.old (entry.now ∷ []) why self.new) };
+            → leaves self.new left → (left ≡ entries) ⊎ (left ≡ entries ++ added entry.now (option_map (λ e. e.now) after.entry))) }
+        ensures says { IfErr result (λ why. says self.old (added entry.now (option_map (λ e. e.now) after.entry)) why self.new) };
 
     /// The entries that the store holds, in order. They stay, whatever the result.
     fn entries(&mut self, alloc: Global) -> Result<Vec<Entry>, StoreFault>

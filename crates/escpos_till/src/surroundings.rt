@@ -3,10 +3,10 @@
 //! Both are one value, so that a contract can say in which order things were done. How a link is opened and what goes over it is
 //! left to the types that implement `PrinterLine`.
 
-ghost use Rattle.std.specs.Prelude.{◌≡◌, ◌≤◌, ℕ, length, take, IfErr, IfOk, OnOk, IsTrue};
+ghost use Rattle.std.specs.Prelude.{◌≡◌, ◌≤◌, ℕ, length, take, option_map, IfErr, IfOk, OnOk, IsTrue};
 ghost use Rattle.escpos_till.specs.declared.machine.TillNote.{TillNote};
 ghost use Rattle.escpos_till.specs.declared.pause.Pause.{Pause};
-ghost use Rattle.escpos_till.specs.Driver.{Breaks, Deed, Ends, Gives, HangsUp, Keeps, Learns, Links, Loses, Misses, Pauses, Puts, Tells};
+ghost use Rattle.escpos_till.specs.Driver.{Breaks, Confirms, Deed, Ends, Gives, HangsUp, Keeps, Learns, Links, Loses, Misses, Pauses, Puts, Tells};
 ghost use Rattle.escpos_till.specs.Appending.{IfDone, IfOthers};
 ghost use Rattle.escpos_till.specs.Surroundings.{Did};
 
@@ -58,14 +58,14 @@ pub struct Surroundings<S: Store, L: PrinterLine> {
 }
 
 impl<S: Store, L: PrinterLine> Surroundings<S, L> {
-    /// Keeps an entry in the store, unless others have added some.
+    /// Keeps an entry in the store, and another one with it, if one is given, unless others have added some.
     #[tactic(auto, unfolding(crate::specs::Surroundings::Did))]
-    pub(crate) fn append(&mut self, entry: &Entry) -> Result<Appended, StoreFault>
-        ensures keeps { IfOk result (λ it. IfDone it (Did S.faithful S.holds S.leaves S.says L.did self.old (Keeps entry.now) self.new)) }
+    pub(crate) fn append(&mut self, entry: &Entry, after: Option<&Entry>) -> Result<Appended, StoreFault>
+        ensures keeps { IfOk result (λ it. IfDone it (Did S.faithful S.holds S.leaves S.says L.did self.old (Keeps entry.now (option_map (λ e. e.now) after.entry)) self.new)) }
         ensures learns { IfOk result (λ it. IfOthers it (λ others. Did S.faithful S.holds S.leaves S.says L.did self.old (Learns others) self.new)) }
-        ensures loses { IfErr result (λ why. Did S.faithful S.holds S.leaves S.says L.did self.old (Loses entry.now why) self.new) }
+        ensures loses { IfErr result (λ why. Did S.faithful S.holds S.leaves S.says L.did self.old (Loses entry.now (option_map (λ e. e.now) after.entry) why) self.new) }
     {
-        self.store.append(entry)
+        self.store.append(entry, after)
     }
 
     /// Opens a link over the line. The store lets others add entries meanwhile.
@@ -116,5 +116,6 @@ impl<S: Store, L: PrinterLine> Surroundings<S, L> {
     pub(crate) fn tells(&self)
         ensures told { (note : TillNote) → Did S.faithful S.holds S.leaves S.says L.did self.now (Tells note) self.now }
         ensures paused { (number : ℕ) (why : Pause) → Did S.faithful S.holds S.leaves S.says L.did self.now (Pauses number why) self.now }
+        ensures confirmed { (number : ℕ) → Did S.faithful S.holds S.leaves S.says L.did self.now (Confirms number) self.now }
     {}
 }

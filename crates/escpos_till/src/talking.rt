@@ -2,19 +2,24 @@
 //!
 //! When a machine talks, and what follows that, is left to `machine`.
 
-ghost use Rattle.std.specs.Prelude.{◌≡◌, ◌⊎◌, ◌-◌, ℕ, [], IfErr, OnOk};
+ghost use Rattle.std.specs.Prelude.{◌≡◌, ◌⊎◌, ◌-◌, ℕ, List, [], IfErr, IsTrue, OnOk};
 ghost use Rattle.escpos_host.specs.Machine.{Open, reports_asked};
+ghost use Rattle.escpos_till.specs.declared.entry.Entry.{Entry};
+ghost use Rattle.escpos_till.specs.Book.{IsBookOf};
 ghost use Rattle.escpos_till.specs.Delivers.{fresh};
-ghost use Rattle.escpos_till.specs.Machine.{Drops, GoesOn, Hears, Opens, RefusesSending, Sends, Submits, Turns, printed};
+ghost use Rattle.escpos_till.specs.Machine.{Drops, GoesOn, Hears, IsGoingOn, Opens, RefusesSending, Sends, SendsNext, Submits, Turns, printed};
 
 use crate::book::Book;
 use crate::entry::Entry;
+use crate::further::printed_or_further;
 use crate::machine::{Due, Stage, Talk, Then, TillNote};
 use crate::number::ReceiptNumber;
+use crate::pause::Paused;
 use crate::tries::closes_try;
 use escpos_command::AutomaticStatus;
 use escpos_host::{Host, HostError, HostEvent, SendFault, open_link_reporting};
 use escpos_receipt::Receipt;
+use std::alloc::Global;
 
 // A host that has sent nothing puts its opening marks out.
 pub(crate) fn opened(host: &mut Host, due: Due) -> Stage
@@ -29,15 +34,27 @@ pub(crate) fn opened(host: &mut Host, due: Due) -> Stage
     }
 }
 
-// What an event does, where so many bytes of answers may still be read.
-pub(crate) fn turned(book: &Book, host: &mut Host, event: HostEvent, talk: Talk, left: u32) -> Stage
-    ensures { Turns book.now event talk left host.old host.new result }
+// What an event does, where so many bytes of answers may still be read, and all that came were heard or not.
+pub(crate) fn turned(
+    alloc: Global,
+    book: &Book,
+    host: &mut Host,
+    event: HostEvent,
+    talk: Talk,
+    left: u32,
+    all: bool,
+) -> Stage
+    requires book { (entries : List Entry) × IsBookOf book.now entries }
+    ensures turns { Turns book.now event talk left host.old host.new result }
+    ensures all { IsGoingOn result → IsTrue all }
 {
     match event {
         HostEvent::None | HostEvent::Status(_) => going_on(host, talk, left),
         HostEvent::Condition(block) => told_of(host, block, talk, left),
         HostEvent::Opened => submitted(host, talk, left),
-        HostEvent::Recorded(_) => printed(talk.number),
+        HostEvent::Recorded(_) => {
+            printed_or_further(alloc, book, host, talk.number, &talk.further, all)
+        }
         HostEvent::Late(id) => {
             if closes_try(&book.tries, talk.number, id) {
                 printed(talk.number)
@@ -58,6 +75,8 @@ fn told_of(host: &mut Host, block: AutomaticStatus, talk: Talk, left: u32) -> St
         receipt,
         left: before,
         paused,
+        further,
+        recorded,
     } = talk;
     let paused = paused.after(block);
     going_on(
@@ -67,6 +86,8 @@ fn told_of(host: &mut Host, block: AutomaticStatus, talk: Talk, left: u32) -> St
             receipt,
             left: before,
             paused,
+            further,
+            recorded,
         },
         left,
     )
@@ -103,6 +124,8 @@ fn going_on(host: &mut Host, talk: Talk, left: u32) -> Stage
         receipt: talk.receipt,
         left,
         paused: talk.paused,
+        further: talk.further,
+        recorded: talk.recorded,
     })
 }
 
@@ -115,6 +138,8 @@ fn submitted(host: &mut Host, talk: Talk, left: u32) -> Stage
         receipt,
         left: before,
         paused,
+        further,
+        recorded,
     } = talk;
     match receipt {
         Some(receipt) if left > 0 => match sent(host, receipt) {
@@ -123,6 +148,8 @@ fn submitted(host: &mut Host, talk: Talk, left: u32) -> Stage
                 receipt: None,
                 left,
                 paused,
+                further,
+                recorded,
             }),
             Err(why) => given_up(host, number, SendFault::Refused(why)),
         },
@@ -133,9 +160,38 @@ fn submitted(host: &mut Host, talk: Talk, left: u32) -> Stage
                 receipt,
                 left: before,
                 paused,
+                further,
+                recorded,
             },
             left,
         ),
+    }
+}
+
+// A receipt is sent over the link of the one before, which is recorded. If the host refuses that, the link is given up.
+pub(crate) fn sent_next(host: &mut Host, recorded: ReceiptNumber, due: Due) -> Stage
+    ensures { SendsNext recorded due host.old host.new result }
+{
+    let Due {
+        number,
+        receipt,
+        openings: _,
+        most,
+        further,
+    } = due;
+    match sent(host, receipt) {
+        Ok(()) => Stage::Talking(Talk {
+            number,
+            receipt: None,
+            left: most,
+            paused: Paused::not(),
+            further,
+            recorded: Some(recorded),
+        }),
+        Err(_) => {
+            host.link_down();
+            Stage::HangingUp(TillNote::Recorded(recorded))
+        }
     }
 }
 

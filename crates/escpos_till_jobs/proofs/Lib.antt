@@ -1,7 +1,7 @@
 pub mod StateLines
 pub mod LinkLines
 pub mod Outcomes
-pub mod Pausing
+pub mod Telling
 pub mod Rounds
 pub mod Tasks
 pub mod RawTasks

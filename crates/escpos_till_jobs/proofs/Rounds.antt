@@ -17,8 +17,8 @@ use Rattle.escpos_till_jobs.specs.declared.outcome.TheConstants.{MOST_DEEDS}
 use Rattle.escpos_till_jobs.specs.Lines.{failed_line, note_line, note_status, outcome_line, outcome_status, refusal_status, refusal_text}
 use Rattle.escpos_till_jobs.specs.Outcomes.{NoteEnds, Settles}
 use Rattle.escpos_till_jobs.specs.Outputs.{Output, Took, ended}
-use Rattle.escpos_till_jobs.specs.Pauses.{BecomesWith, pause_lines}
-use Rattle.escpos_till_jobs.proofs.Pausing.{took_both}
+use Rattle.escpos_till_jobs.specs.News.{BecomesWith, news_lines}
+use Rattle.escpos_till_jobs.proofs.Telling.{took_both}
 
 -- So many receipts are recorded so far, and told.
 pub record SoFar {D : Type 0} (did : D → Deed → D → Type 0) (delivery : Delivery) (m : MachineView) (old : D) (before : Output) (now : MachineView) (new : D) (heard : Output) (count : ℕ) : Type 0 where
@@ -44,7 +44,7 @@ pub round_goes : {D : Type 0} (did : D → Deed → D → Type 0) (delivery : De
     → BecomesWith did (RefusesDeliver m delivery.openings) m old (asked delivery) before (outcome.Told n) true after new heard → Settles n → Took heard (note_line n) end
     → RoundGoes did delivery m old before after new end
 round_goes did delivery m old before n after new heard end (serves, tells) settles took =
-    record { note = n; settles = settles; serves = serves; told = took_both before heard end (pause_lines serves.runs.before) (note_line n) tells took }
+    record { note = n; settles = settles; serves = serves; told = took_both before heard end (news_lines serves.runs.before) (note_line n) tells took }
 
 tells_after : (a b c : Output) (x y : List ℕ) (status wanted : Status) → Took a x b → Tells (ended b c status) y wanted → Tells (ended a c status) (x ++ y) wanted
 tells_after a b c x y status wanted took (inl (is, puts)) = inl (is, Appends-trans a.written b.written c.written x y took.put puts)
@@ -57,9 +57,9 @@ pub round_over : {D : Type 0} (did : D → Deed → D → Type 0) (delivery : De
 round_over did delivery m old before (outcome.Refused why) after new heard end status (refuses, same, stays, heard_is, told) not tells =
     inr (outcome.Refused why, (refuses, same, stays), not, subst (λ o. Tells (ended o end status) (refusal_text why) (refusal_status why)) heard_is tells)
 round_over did delivery m old before (outcome.Told n) after new heard end status (serves, told) not tells =
-    inr (outcome.Told n, serves, not, tells_after before heard end (pause_lines serves.runs.before) (note_line n) status (note_status n) told tells)
+    inr (outcome.Told n, serves, not, tells_after before heard end (news_lines serves.runs.before) (note_line n) status (note_status n) told tells)
 round_over did delivery m old before outcome.GivenUp after new heard end status (gives, told) not tells =
-    inr (outcome.GivenUp, gives, not, tells_after before heard end (pause_lines gives.runs.run.deeds) failed_line status Device told tells)
+    inr (outcome.GivenUp, gives, not, tells_after before heard end (news_lines gives.runs.run.deeds) failed_line status Device told tells)
 
 same_told : (x n : TillNote) → outcome.Told x ≡ outcome.Told n → x ≡ n
 same_told x n is = cc is

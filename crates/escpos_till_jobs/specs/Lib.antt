@@ -2,7 +2,7 @@ pub mod Lines
 pub mod Opening
 pub mod Outcomes
 pub mod Outputs
-pub mod Pauses
+pub mod News
 pub mod Delivering
 pub mod LinkLine
 pub mod Again

@@ -65,15 +65,12 @@ waiting_line number why = codes "waiting " ++ decimal number ++ codes " " ++ why
 abbrev pub pause_line : ℕ → Pause → List ℕ
 pause_line number why = codes "paused " ++ decimal number ++ codes " " ++ told_name why ++ LF ∷ []
 
--- The note says that.
-abbrev pub IsPauseNote : TillNote → Type 0
-IsPauseNote (note.Paused number why) = Unit {0}
-IsPauseNote n = ⊥
-
--- Its line; a note that says something else has none here.
-abbrev pub pause_text : TillNote → List ℕ
-pause_text (note.Paused number why) = pause_line number why
-pause_text n = []
+-- What is told while a call goes on: that the printer prints nothing for now, or that a receipt is recorded and the next one is being sent.
+-- Another note has no line here.
+abbrev pub news_text : TillNote → List ℕ
+news_text (note.Paused number why) = pause_line number why
+news_text (note.Recorded number) = recorded_line number
+news_text n = []
 
 -- Why a call was refused. That nothing waits gives no line.
 abbrev pub refusal_text : TillRefusal → List ℕ

@@ -1,14 +1,14 @@
 //! `deliver`: the receipts of a ledger that wait are sent to the printer, one after another.
 //!
-//! Each goes over a link of its own. What a machine does for one, and in which order, is left to escpos_till; here it is asked for
-//! one receipt after another, and what it tells is printed.
+//! They go over one link, as long as the printer answers well there; then over another. What a machine does for them, and in which order, is
+//! left to escpos_till; here it is asked for the receipts of one link after another, and what it tells is printed.
 
 ghost use Rattle.std.specs.Prelude.{◌≡◌, ◌≢◌, IfErr, OnOk, IsTrue};
 ghost use Rattle.escpos_till.specs.Machine.{RefusesDeliver};
 ghost use Rattle.escpos_till.specs.Surroundings.{Did};
 ghost use Rattle.escpos_till_jobs.specs.Delivering.{DeliversAndTells, RoundEnds, RoundGoes, asked};
 ghost use Rattle.escpos_till_jobs.specs.Outputs.{output_of};
-ghost use Rattle.escpos_till_jobs.specs.Pauses.{BecomesTelling};
+ghost use Rattle.escpos_till_jobs.specs.News.{BecomesTelling};
 
 use crate::following::{Followed, follow_telling};
 use crate::outcome::{Outcome, tell, tell_if_settled};
@@ -62,7 +62,7 @@ pub fn deliver_waiting<S: Store, L: PrinterLine, W: ByteOut>(
     Status::Good
 }
 
-// Sends the first receipt that waits, and prints what became of it. The error is the status where no further one is sent.
+// Sends the receipts that wait over one link, and prints what became of them. The error is the status where no further one is sent.
 fn deliver_next<S: Store, L: PrinterLine, W: ByteOut>(
     machine: &mut TillMachine,
     around: &mut Surroundings<S, L>,
@@ -86,7 +86,7 @@ fn deliver_next<S: Store, L: PrinterLine, W: ByteOut>(
     }
 }
 
-// Sends the first receipt that waits, and prints each pause of the printer.
+// Sends the receipts that wait over one link, and prints each pause of the printer, and each receipt that is recorded but the last.
 fn delivered<S: Store, L: PrinterLine, W: ByteOut>(
     machine: &mut TillMachine,
     around: &mut Surroundings<S, L>,
@@ -97,7 +97,12 @@ fn delivered<S: Store, L: PrinterLine, W: ByteOut>(
     ensures becomes { BecomesTelling (Did S.faithful S.holds S.leaves S.says L.did) (RefusesDeliver machine.old delivery.now.openings) machine.old around.old (asked delivery.now)
         (output_of (W.written output.old) (W.failed output.old)) result machine.new around.new (output_of (W.written output.new) (W.failed output.new)) }
 {
-    match machine.deliver(delivery.openings, delivery.copy.as_ref(), ANSWERS_LIMIT) {
+    match machine.deliver(
+        delivery.openings,
+        delivery.copy.as_ref(),
+        ANSWERS_LIMIT,
+        true,
+    ) {
         Ok(()) => {
             // Proof only: what is to be sent is a receipt.
             machine.is_sound();

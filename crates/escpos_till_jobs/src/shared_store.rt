@@ -3,16 +3,17 @@
 //! The ledger is opened for an entry, and closed again where its printer is waited for. Each time that it is opened, what is found must begin
 //! with what is known, and go on with entries that others may add; anything else is a failure. How a ledger is opened is left to `Ledgers`.
 
-ghost use Rattle.std.specs.Prelude.{◌≡◌, ◌≢◌, ◌↔◌, ◌⊎◌, ◌++◌, ◌∷◌, [], List, false, None, Ok, IfOk, IfSome, OnErr, OnOk};
+ghost use Rattle.std.specs.Prelude.{◌≡◌, ◌≢◌, ◌↔◌, ◌⊎◌, ◌++◌, ◌∷◌, [], List, option_map, vec_capacity, vec_len, ◌+◌, ◌≤◌, false, None, Ok, IfOk, IfSome, OnErr, OnOk};
 ghost use Rattle.escpos_till.specs.declared.store.Appended.TheVariants as appended;
 ghost use Rattle.escpos_till.specs.declared.entry.Entry.{Entry};
+ghost use Rattle.escpos_till.specs.Appending.{added};
 ghost use Rattle.escpos_till.specs.Learning.{AreOthers};
 ghost use Rattle.escpos_till_jobs.specs.SharedStores.{SharedHolds, SharedLeaves};
 
 use crate::perform::Ledgers;
 use crate::task::LedgerPath;
 use escpos_till::{Appended, Entry, NoStore, Store, StoreFault, copies, others_since};
-use std::alloc::Global;
+use std::alloc::{AllocError, Global};
 use std::marker::Model;
 
 /// A store of the ledger at a path, which is let go between entries. The model is what is known of it.
@@ -115,26 +116,27 @@ impl<F: Ledgers<S> + Drop, S: Store + Drop> SharedStore<F, S> {
         }
     }
 
-    // Adds an entry to the store that is open.
-    fn add(&mut self, entry: &Entry) -> Result<Appended, StoreFault>
+    // Adds an entry to the store that is open, and another one after it, if one is given: both or neither.
+    fn add(&mut self, entry: &Entry, after: Option<&Entry>) -> Result<Appended, StoreFault>
         requires { self.old.unsure ≡ false }
-        ensures added { OnOk result ((self.new.unsure ≡ false) × (self.new.known ≡ self.old.known ++ entry.now ∷ [])) }
+        ensures added { OnOk result ((self.new.unsure ≡ false) × (self.new.known ≡ self.old.known ++ added entry.now (option_map (λ e. e.now) after.entry))) }
         ensures done { IfOk result (λ it. it ≡ appended.Done) }
         ensures is_open { OnOk result (self.new.held ≢ None) }
-        ensures left { OnErr result ((left : List Entry) → SharedLeaves S.faithful S.holds S.leaves self.new left → (left ≡ self.old.known) ⊎ (left ≡ self.old.known ++ entry.now ∷ [])) }
+        ensures left { OnErr result ((left : List Entry) → SharedLeaves S.faithful S.holds S.leaves self.new left
+            → (left ≡ self.old.known) ⊎ (left ≡ self.old.known ++ added entry.now (option_map (λ e. e.now) after.entry))) }
     {
-        let Ok(kept) = entry.copy(self.alloc) else {
+        let Ok((kept, kept_after)) = copies_of(self.alloc, entry, after) else {
             return Err(StoreFault::Memory);
         };
-        if self.known.reserve(1).is_err() {
+        if self.known.reserve(2).is_err() {
             return Err(StoreFault::Memory);
         }
         let Some(mut store) = self.held.take() else {
             return Err(StoreFault::Failed);
         };
-        match store.append(entry) {
+        match store.append(entry, after) {
             Ok(Appended::Done) => {
-                self.known.push_reserved(kept);
+                push_both(&mut self.known, kept, kept_after);
                 self.held = Some(store);
                 Ok(Appended::Done)
             }
@@ -149,6 +151,32 @@ impl<F: Ledgers<S> + Drop, S: Store + Drop> SharedStore<F, S> {
                 Err(why)
             }
         }
+    }
+}
+
+// An entry once more, and the one after it, if one is given.
+fn copies_of(
+    alloc: Global,
+    entry: &Entry,
+    after: Option<&Entry>,
+) -> Result<(Entry, Option<Entry>), AllocError>
+    ensures { IfOk result (λ it. (it.0 ≡ entry.now) × (it.1 ≡ option_map (λ e. e.now) after.entry)) }
+{
+    let entry = entry.copy(alloc)?;
+    match after {
+        Some(after) => Ok((entry, Some(after.copy(alloc)?))),
+        None => Ok((entry, None)),
+    }
+}
+
+// Adds both after the entries that are known, which have room for two.
+fn push_both(known: &mut Vec<Entry>, entry: Entry, after: Option<Entry>)
+    requires { vec_len known.old + 2 ≤ vec_capacity known.old }
+    ensures { known.new.items ≡ known.old.items ++ added entry after }
+{
+    known.push_reserved(entry);
+    if let Some(after) = after {
+        known.push_reserved(after);
     }
 }
 
@@ -176,12 +204,12 @@ impl<F: Ledgers<S> + Drop, S: Store + Drop> Store for SharedStore<F, S> {
     // Whichever step failed.
     ghost says = { λ s added why new. Unit {0} };
 
-    fn append(&mut self, entry: &Entry) -> Result<Appended, StoreFault> {
+    fn append(&mut self, entry: &Entry, after: Option<&Entry>) -> Result<Appended, StoreFault> {
         if self.unsure {
             return Err(StoreFault::Failed);
         }
         match self.take() {
-            Ok(None) => self.add(entry),
+            Ok(None) => self.add(entry, after),
             Ok(Some(others)) => Ok(Appended::Others(others)),
             Err(why) => Err(why),
         }

@@ -57,14 +57,20 @@ fn one_waits(rt: &impl Abort, alloc: Global, others: (usize, &[Plain])) -> BusyL
     busy(rt, alloc, &[Plain::Taken], others)
 }
 
-// Another till takes a receipt while the first is delivered: that is delivered next.
+// Another till takes a receipt before the first is tried: it goes over the same link, which ends.
+#[test]
+fn a_receipt_is_taken_first(rt: HostRuntime) {
+    let told = ("recorded 1\nwaiting 2 Ended\n", Status::Device);
+    let ledger = one_waits(&rt, rt.alloc(), (2, &[Plain::Taken]));
+    delivers(&rt, rt.alloc(), ledger, FIRST, (told, 5));
+}
+
+// Or while the first is delivered: that is delivered next, over a link of its own.
 #[test]
 fn a_receipt_is_taken_meanwhile(rt: HostRuntime) {
     let told = ("recorded 1\nwaiting 2 no link\n", Status::Device);
-    for at in 2..4 {
-        let ledger = one_waits(&rt, rt.alloc(), (at, &[Plain::Taken]));
-        delivers(&rt, rt.alloc(), ledger, FIRST, (told, 4));
-    }
+    let ledger = one_waits(&rt, rt.alloc(), (3, &[Plain::Taken]));
+    delivers(&rt, rt.alloc(), ledger, FIRST, (told, 4));
 }
 
 // So is one where the printer takes the bytes at once, and answers later.
@@ -134,7 +140,7 @@ fn an_entry_is_not_kept(rt: HostRuntime) {
     };
     let raised = Entry::Raised { next: 9 };
     let failed = Err(StoreFault::Failed);
-    assert!(&rt; store.append(&raised).map(|_| ()) == failed);
-    assert!(&rt; store.append(&raised).map(|_| ()) == failed);
+    assert!(&rt; store.append(&raised, None).map(|_| ()) == failed);
+    assert!(&rt; store.append(&raised, None).map(|_| ()) == failed);
     assert!(&rt; store.entries(rt.alloc()).map(|_| ()) == failed);
 }

@@ -279,7 +279,7 @@ fn not_found(rt: HostRuntime) {
     let _store = lists(&rt, rt.alloc(), store, None, listed);
 }
 
-// The first receipt is recorded, and the link ends before the second one's opening mark is answered: no third is tried.
+// The first receipt is recorded, and the second one goes over the same link, which ends: no third is tried.
 #[test]
 fn delivered_over_a_link(rt: HostRuntime) {
     let (listener, address) = listens(&rt);
@@ -293,7 +293,7 @@ fn delivered_over_a_link(rt: HostRuntime) {
     let store = store_of(&rt, rt.alloc(), &[Plain::Taken, Plain::Taken, Plain::Taken]);
     let told = ("recorded 1\nwaiting 2 Ended\n", Status::Device);
     let store = delivers(&rt, rt.alloc(), store, (&net, address), told);
-    let listed = ("1 recorded 0\n2 tried 1\n3 waiting\nnext 4\n", Status::Good);
+    let listed = ("1 recorded 0\n2 tried 1\n3 waiting\nnext 3\n", Status::Good);
     let _store = lists(&rt, rt.alloc(), store, None, listed);
 }
 

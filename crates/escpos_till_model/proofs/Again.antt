@@ -2,12 +2,14 @@
 use Rattle.std.proofs.Common.{ℕ, ◌≡◌, ◌-◌, ◌⊎◌, inl, inr, Option, Some, None, List, [], ◌∷◌, ◌++◌, refl, sym, ◌∙◌, ap, subst, append-nil, append_assoc, arith}
 use Rattle.escpos_host.specs.declared.host.HostEvent.{HostEvent}
 use Rattle.escpos_host.specs.declared.host.HostEvent.TheVariants as heard
+use Rattle.escpos_host.specs.declared.send.SendFault.{SendFault}
 use Rattle.escpos_host.specs.Earlier.{with_earlier}
 use Rattle.escpos_host.specs.Machine.{HostView}
 use Rattle.escpos_link.specs.Wire.{WireView}
 use Rattle.escpos_till.specs.declared.book.Book.{Book}
 use Rattle.escpos_till.specs.declared.entry.Entry.{Entry}
 use Rattle.escpos_till.specs.declared.entry.Entry.TheVariants as entry
+use Rattle.escpos_till.specs.declared.further.Further.{Further}
 use Rattle.escpos_till.specs.declared.machine.Stage.{Stage}
 use Rattle.escpos_till.specs.declared.machine.Stage.TheVariants as stage
 use Rattle.escpos_till.specs.declared.machine.Talk.{Talk}
@@ -16,8 +18,9 @@ use Rattle.escpos_till.specs.declared.machine.Then.{Then}
 use Rattle.escpos_till.specs.declared.machine.Then.TheVariants as then
 use Rattle.std.specs.List.{AllByRecursion}
 use Rattle.escpos_till.specs.Book.{IsBookOf}
-use Rattle.escpos_till.specs.Entries.{IsLedger, Waits, cancelled}
-use Rattle.escpos_till.specs.Learning.{IsOthers, LearnsAll}
+use Rattle.escpos_till.specs.Entries.{IsLedger, MayFollow, Waits, cancelled}
+use Rattle.escpos_till.specs.Further.{GoesFurther}
+use Rattle.escpos_till.specs.Learning.{EndsCancelled, IsOthers, Revises}
 use Rattle.escpos_till.specs.Machine.{Ended, MachineView, Turns as MachineTurns, connected, hung_up, not_connected, printed}
 use Rattle.escpos_till.specs.Tries.{ClosesTry, HasTry, tries}
 use Rattle.escpos_till_model.specs.declared.event.Happening.{Happening}
@@ -38,14 +41,27 @@ use Rattle.escpos_till_model.proofs.Worlds.{entries_last, over_time, whatever}
 
 -- ## It is to be kept that the receipt is recorded
 
-abbrev recording : ℕ → Stage
-recording number = stage.Keeping (entry.Recorded number) (then.Recorded number)
+-- What follows then: the link is given up, or the next receipt is sent.
+abbrev Records : ℕ → Then → Type 0
+Records number (then.Recorded n) = n ≡ number
+Records number (then.GoOn n tried due) = n ≡ number
+Records number next = ⊥
+
+abbrev IsRecordingAt : ℕ → Stage → Type 0
+IsRecordingAt number (stage.Keeping e next) = (e ≡ entry.Recorded number) × Records number next
+IsRecordingAt number s = ⊥
+
+printed_at : (n number : ℕ) → n ≡ number → IsRecordingAt number (printed n)
+printed_at n number same = (ap entry.Recorded same, same)
+
+further_at : (b : Book) (n number : ℕ) (further : Option Further) (h : HostView) (s : Stage) → n ≡ number → GoesFurther b n further h s → IsRecordingAt number s
+further_at b n number further h s same goes = subst (IsRecordingAt number) (sym goes.stage_is) (ap entry.Recorded same, same)
 
 -- The machine is to keep that, and these entries are there, and after them only such as others add.
 record IsRecording (number : ℕ) (kept : List Entry) (now : World) : Type 0 where
   m : MachineView
   is : now.machine ≡ Some m
-  at : m.stage ≡ recording number
+  at : IsRecordingAt number m.stage
   more : List Entry
   each : AllByRecursion IsOthers more
   same : now.kept ≡ kept ++ more
@@ -54,29 +70,61 @@ one_machine : (a b : MachineView) → Some a ≡ Some b → a ≡ b
 one_machine a b e = cc e
 
 -- The machine that is there stands so.
-stands_so : (number : ℕ) (kept : List Entry) (now : World) (m : MachineView) → now.machine ≡ Some m → IsRecording number kept now → m.stage ≡ recording number
-stands_so number kept now m was r = subst (λ x. x.stage ≡ recording number) (one_machine r.m m (sym r.is ∙ was)) r.at
+stands_so : (number : ℕ) (kept : List Entry) (now : World) (m : MachineView) → now.machine ≡ Some m → IsRecording number kept now → IsRecordingAt number m.stage
+stands_so number kept now m was r = subst (λ x. IsRecordingAt number x.stage) (one_machine r.m m (sym r.is ∙ was)) r.at
 
 -- So it does still, where the machine has become this one.
 still : (number : ℕ) (kept : List Entry) (now new : World) (after : MachineView) (wire : WireView) (notes : List TillNote) → IsRecording number kept now
-    → new ≡ running after now.kept wire notes → after.stage ≡ recording number → IsRecording number kept new
+    → new ≡ running after now.kept wire notes → IsRecordingAt number after.stage → IsRecording number kept new
 still number kept now new after wire notes r is at =
     subst (IsRecording number kept) (sym is) (record { m = after; is = refl; at = at; more = r.more; each = r.each; same = r.same })
 
-connected_at : (number : ℕ) (s : Stage) (m : MachineView) → s ≡ recording number → (connected s m).stage ≡ m.stage
-connected_at number s m at = ap (λ x. (connected x m).stage) at
+-- It stands as before.
+same_at : (number : ℕ) (m after : MachineView) → after ≡ m → IsRecordingAt number m.stage → IsRecordingAt number after.stage
+same_at number m after same at = subst (λ x. IsRecordingAt number x.stage) (sym same) at
 
-missed_at : (number : ℕ) (s : Stage) (m : MachineView) → s ≡ recording number → (not_connected s m).stage ≡ m.stage
-missed_at number s m at = ap (λ x. (not_connected x m).stage) at
+connected_at : (number : ℕ) (s : Stage) (m : MachineView) → IsRecordingAt number s → connected s m ≡ m
+connected_at number (stage.Keeping e next) m at = refl
+connected_at number stage.AtRest m at = absurd at
+connected_at number (stage.Connecting due) m at = absurd at
+connected_at number (stage.Talking talk) m at = absurd at
+connected_at number (stage.HangingUp n) m at = absurd at
+connected_at number (stage.Telling n) m at = absurd at
+connected_at number stage.Failed m at = absurd at
 
-hung_at : (number : ℕ) (s : Stage) (m : MachineView) → s ≡ recording number → (hung_up s m).stage ≡ m.stage
-hung_at number s m at = ap (λ x. (hung_up x m).stage) at
+missed_at : (number : ℕ) (s : Stage) (m : MachineView) → IsRecordingAt number s → not_connected s m ≡ m
+missed_at number (stage.Keeping e next) m at = refl
+missed_at number stage.AtRest m at = absurd at
+missed_at number (stage.Connecting due) m at = absurd at
+missed_at number (stage.Talking talk) m at = absurd at
+missed_at number (stage.HangingUp n) m at = absurd at
+missed_at number (stage.Telling n) m at = absurd at
+missed_at number stage.Failed m at = absurd at
+
+hung_at : (number : ℕ) (s : Stage) (m : MachineView) → IsRecordingAt number s → hung_up s m ≡ m
+hung_at number (stage.Keeping e next) m at = refl
+hung_at number stage.AtRest m at = absurd at
+hung_at number (stage.Connecting due) m at = absurd at
+hung_at number (stage.Talking talk) m at = absurd at
+hung_at number (stage.HangingUp n) m at = absurd at
+hung_at number (stage.Telling n) m at = absurd at
+hung_at number stage.Failed m at = absurd at
+
+ended_at : (number : ℕ) (s : Stage) (why : SendFault) (m after : MachineView) → IsRecordingAt number s → Ended s why m after → after ≡ m
+ended_at number (stage.Keeping e next) why m after at ended = ended
+ended_at number stage.AtRest why m after at ended = absurd at
+ended_at number (stage.Connecting due) why m after at ended = absurd at
+ended_at number (stage.Talking talk) why m after at ended = absurd at
+ended_at number (stage.HangingUp n) why m after at ended = absurd at
+ended_at number (stage.Telling n) why m after at ended = absurd at
+ended_at number stage.Failed why m after at ended = absurd at
 
 -- Nothing but an entry that is kept, a crash or a failure of the store changes that.
 abbrev Stays : Happening → Type 0
 Stays event.Keep = ⊥
 Stays event.Crash = ⊥
 Stays (event.FailWith why) = ⊥
+Stays (event.FailWithBoth why) = ⊥
 Stays (event.FailWithout why) = ⊥
 Stays (event.Learn others) = ⊥
 Stays (event.FailLearning others why) = ⊥
@@ -85,43 +133,43 @@ Stays e = Unit {0}
 stays_so : (number : ℕ) (kept : List Entry) (now new : World) (e : Happening) → Stays e → IsRecording number kept now → Happens now e new → IsRecording number kept new
 stays_so number kept now new event.Start stays r h = absurd (let bad : None ≡ Some r.m = sym h.off ∙ r.is in cc)
 stays_so number kept now new (event.Queue content key) stays r h =
-    absurd (let bad : stage.AtRest ≡ recording number = sym h.goes.rest ∙ stands_so number kept now h.m h.was r in cc)
+    absurd (subst (IsRecordingAt number) h.goes.rest (stands_so number kept now h.m h.was r))
 stays_so number kept now new (event.Raise first) stays r h =
-    absurd (let bad : stage.AtRest ≡ recording number = sym h.goes.rest ∙ stands_so number kept now h.m h.was r in cc)
+    absurd (subst (IsRecordingAt number) h.goes.rest (stands_so number kept now h.m h.was r))
 stays_so number kept now new (event.Cancel other) stays r h =
-    absurd (let bad : stage.AtRest ≡ recording number = sym h.goes.rest ∙ stands_so number kept now h.m h.was r in cc)
-stays_so number kept now new (event.Deliver openings most copy) stays r (is_copy, h) =
-    absurd (let bad : stage.AtRest ≡ recording number = sym h.goes.0.rest ∙ stands_so number kept now h.m h.was r in cc)
+    absurd (subst (IsRecordingAt number) h.goes.rest (stands_so number kept now h.m h.was r))
+stays_so number kept now new (event.Deliver openings most copy further) stays r (is_copy, h) =
+    absurd (subst (IsRecordingAt number) h.goes.0.rest (stands_so number kept now h.m h.was r))
 stays_so number kept now new event.Refuse stays r h =
-    still number kept now new h.after h.wire now.told r h.is (h.goes.stage ∙ stands_so number kept now h.m h.was r)
+    still number kept now new h.after h.wire now.told r h.is (subst (IsRecordingAt number) (sym h.goes.stage) (stands_so number kept now h.m h.was r))
 stays_so number kept now new event.Keep stays r h = absurd stays
 stays_so number kept now new (event.FailWith why) stays r h = absurd stays
+stays_so number kept now new (event.FailWithBoth why) stays r h = absurd stays
 stays_so number kept now new (event.FailWithout why) stays r h = absurd stays
 stays_so number kept now new (event.Learn others) stays r h = absurd stays
 stays_so number kept now new (event.FailLearning others why) stays r h = absurd stays
 stays_so number kept now new event.Connect stays r h =
     let at = stands_so number kept now h.m h.was r in
-    still number kept now new h.after h.wire now.told r h.is (ap (λ x. x.stage) h.goes ∙ connected_at number h.m.stage h.m at ∙ at)
+    still number kept now new h.after h.wire now.told r h.is (same_at number h.m h.after (h.goes ∙ connected_at number h.m.stage h.m at) at)
 stays_so number kept now new event.Miss stays r h =
     let at = stands_so number kept now h.m h.was r in
-    still number kept now new h.after h.wire now.told r h.is (ap (λ x. x.stage) h.goes ∙ missed_at number h.m.stage h.m at ∙ at)
+    still number kept now new h.after h.wire now.told r h.is (same_at number h.m h.after (h.goes ∙ missed_at number h.m.stage h.m at) at)
 stays_so number kept now new (event.Put most) stays r h =
-    absurd (let bad : stage.Talking h.talk ≡ recording number = sym h.talks ∙ stands_so number kept now h.m h.was r in cc)
+    absurd (subst (IsRecordingAt number) h.talks (stands_so number kept now h.m h.was r))
 stays_so number kept now new (event.Break most fewer why) stays r h =
-    absurd (let bad : stage.Talking h.talk ≡ recording number = sym h.talks ∙ stands_so number kept now h.m h.was r in cc)
+    absurd (subst (IsRecordingAt number) h.talks (stands_so number kept now h.m h.was r))
 stays_so number kept now new (event.Hear most) stays r h =
-    absurd (let bad : stage.Talking h.talk ≡ recording number = sym h.talks ∙ stands_so number kept now h.m h.was r in cc)
+    absurd (subst (IsRecordingAt number) h.talks (stands_so number kept now h.m h.was r))
 stays_so number kept now new (event.End why) stays r h =
     let at = stands_so number kept now h.m h.was r in
-    let same : h.after ≡ h.m = subst (λ s. Ended s why h.m h.after) at h.goes in
-    still number kept now new h.after h.wire now.told r h.is (ap (λ x. x.stage) same ∙ at)
+    still number kept now new h.after h.wire now.told r h.is (same_at number h.m h.after (ended_at number h.m.stage why h.m h.after at h.goes) at)
 stays_so number kept now new event.HangUp stays r h =
     let at = stands_so number kept now h.m h.was r in
-    still number kept now new h.after h.wire now.told r h.is (ap (λ x. x.stage) h.goes ∙ hung_at number h.m.stage h.m at ∙ at)
-stays_so number kept now new event.Pause stays r h =
-    absurd (let bad : stage.Talking h.goes.talk ≡ recording number = sym h.goes.talks ∙ stands_so number kept now h.m h.was r in cc)
+    still number kept now new h.after h.wire now.told r h.is (same_at number h.m h.after (h.goes ∙ hung_at number h.m.stage h.m at) at)
+stays_so number kept now new event.News stays r h =
+    absurd (subst (IsRecordingAt number) h.goes.talks (stands_so number kept now h.m h.was r))
 stays_so number kept now new event.Tell stays r h =
-    absurd (let bad : stage.Telling h.note ≡ recording number = sym h.moves.goes.0 ∙ stands_so number kept now h.moves.m h.moves.was r in cc)
+    absurd (subst (IsRecordingAt number) h.moves.goes.0 (stands_so number kept now h.moves.m h.moves.was r))
 stays_so number kept now new (event.OnWire e) stays r h =
     subst (IsRecording number kept) (sym h.is) (record { m = r.m; is = r.is; at = r.at; more = r.more; each = r.each; same = r.same })
 stays_so number kept now new event.Idle stays r h =
@@ -172,37 +220,43 @@ cancels_in number (entry.Key key ∷ others) (is, each) among =
 cancels_in number (entry.Tried n next ∷ others) (is, each) among = absurd is
 cancels_in number (entry.Recorded n ∷ others) (is, each) among = absurd is
 
-one_entry : (a b : Entry) (x y : Then) → stage.Keeping a x ≡ stage.Keeping b y → a ≡ b
-one_entry a b x y e = cc e
-
-one_then : (a b : Entry) (x y : Then) → stage.Keeping a x ≡ stage.Keeping b y → x ≡ y
-one_then a b x y e = cc e
-
 -- So the first entry that is kept says that the receipt is recorded.
 kept_first : (number : ℕ) (kept : List Entry) (now mid new : World) (es : List Happening) → IsRecording number kept now → Happens now event.Keep mid → Runs mid es new
     → HasEnded number kept new.kept
 kept_first number kept now mid new es r h runs =
-    let at = sym h.moves.goes.0 ∙ stands_so number kept now h.moves.m h.moves.was r in
-    let is : h.entry ≡ entry.Recorded number = one_entry h.entry (entry.Recorded number) h.next (then.Recorded number) at in
+    let is : h.entry ≡ entry.Recorded number = (subst (IsRecordingAt number) h.moves.goes.0 (stands_so number kept now h.moves.m h.moves.was r)).0 in
     let here : mid.kept ≡ kept ++ (r.more ++ entry.Recorded number ∷ []) =
     ap (λ v. v.kept) h.moves.is ∙ ap (λ es. es ++ h.entry ∷ []) r.same ∙ ap (λ x. (kept ++ r.more) ++ x ∷ []) is ∙ append_assoc kept r.more (entry.Recorded number ∷ []) in
     ends_on number kept mid.kept new.kept (r.more, entry.Recorded number, [], r.each, refl, here) (entries_last mid new es runs)
+
+revised_at : (number : ℕ) (next : Then) (b : Book) (before h : HostView) (s : Stage) → Records number next → Revises next b before h s → IsRecordingAt number s ⊎ EndsCancelled b number before h s
+revised_at number (then.Recorded n) b before h s same (inl (waits, host, at)) = inl (subst (IsRecordingAt number) (sym at) (printed_at n number same))
+revised_at number (then.Recorded n) b before h s same (inr ends) = inr (subst (λ k. EndsCancelled b k before h s) same ends)
+revised_at number (then.GoOn n tried due) b before h s same (inl (waits, host, inl at)) = inl (subst (IsRecordingAt number) (sym at) (printed_at n number same))
+revised_at number (then.GoOn n tried due) b before h s same (inl (waits, host, inr goes)) = inl (further_at b n number due.further before s same goes)
+revised_at number (then.GoOn n tried due) b before h s same (inr ends) = inr (subst (λ k. EndsCancelled b k before h s) same ends)
+revised_at number then.Queued b before h s none revises = absurd none
+revised_at number (then.Take content) b before h s none revises = absurd none
+revised_at number then.Raised b before h s none revises = absurd none
+revised_at number (then.Cancelled n tried) b before h s none revises = absurd none
+revised_at number (then.Send due) b before h s none revises = absurd none
+revised_at number (then.SendNext n due) b before h s none revises = absurd none
 
 -- Others have added entries: it is still to be kept; or one of them has cancelled the receipt.
 learned_first : (number : ℕ) (kept others : List Entry) (now mid : World) → IsWorld now → IsRecording number kept now → Happens now (event.Learn others) mid
     → IsRecording number kept mid ⊎ HasEnded number kept mid.kept
 learned_first number kept others now mid known r h =
     let m : MachineView = h.moves.m in
-    let stands = stands_so number kept now m h.moves.was r in
-    let next : h.next ≡ then.Recorded number = one_then h.entry (entry.Recorded number) h.next (then.Recorded number) (sym h.moves.goes.0 ∙ stands) in
-    let (each, notes, revises) = subst (λ n. LearnsAll n others m h.moves.after) next h.moves.goes.1 in
+    let at : m.stage ≡ stage.Keeping h.entry h.next = h.moves.goes.0 in
+    let (is, records) = subst (IsRecordingAt number) at (stands_so number kept now m h.moves.was r) in
+    let (each, notes, revises) = h.moves.goes.1 in
     let p = parts now m h.moves.was known in
-    let follows = (subst (λ s. Holds now.kept p.hand (with_earlier p.earlier m.host) s) stands p.holds).0 in
-    let book : IsBookOf m.book now.kept = p.book (λ lags. subst BookMayLag stands lags) in
+    let follows = subst (MayFollow now.kept) is (subst (λ s. Holds now.kept p.hand (with_earlier p.earlier m.host) s) at p.holds).0 in
+    let book : IsBookOf m.book now.kept = p.book (λ lags. subst BookMayLag at lags) in
     let after_book = (notes now.kept book p.account.keeps.ledger).1 in
     let here : mid.kept ≡ kept ++ (r.more ++ others) = ap (λ v. v.kept) h.moves.is ∙ ap (λ es. es ++ others) r.same ∙ append_assoc kept r.more others in
-    elim revises [
-      | inl (waits, same, at) ↦ inl (subst (IsRecording number kept) (sym h.moves.is) (record {
+    elim (revised_at number h.next h.moves.after.book m.host h.moves.after.host h.moves.after.stage records revises) [
+      | inl at ↦ inl (subst (IsRecording number kept) (sym h.moves.is) (record {
         m = h.moves.after;
         is = refl;
         at = at;
@@ -240,11 +294,12 @@ goes laws number kept now new (event.FailLearning others why ∷ es) known r (mi
 goes laws number kept now new (event.Crash ∷ es) known r (mid, h, runs) kept_so = absurd (kept_so tt)
 goes laws number kept now new (event.FailWith why ∷ es) known r (mid, h, runs) kept_so = absurd (kept_so tt)
 goes laws number kept now new (event.FailWithout why ∷ es) known r (mid, h, runs) kept_so = absurd (kept_so tt)
+goes laws number kept now new (event.FailWithBoth why ∷ es) known r (mid, h, runs) kept_so = absurd (kept_so tt)
 goes laws number kept now new (event.Start ∷ es) known r (mid, h, runs) kept_so = goes laws number kept mid new es (whatever laws now mid event.Start known h) (stays_so number kept now mid event.Start tt r h) runs kept_so
 goes laws number kept now new ((event.Queue content key) ∷ es) known r (mid, h, runs) kept_so = goes laws number kept mid new es (whatever laws now mid (event.Queue content key) known h) (stays_so number kept now mid (event.Queue content key) tt r h) runs kept_so
 goes laws number kept now new ((event.Raise first) ∷ es) known r (mid, h, runs) kept_so = goes laws number kept mid new es (whatever laws now mid (event.Raise first) known h) (stays_so number kept now mid (event.Raise first) tt r h) runs kept_so
 goes laws number kept now new ((event.Cancel other) ∷ es) known r (mid, h, runs) kept_so = goes laws number kept mid new es (whatever laws now mid (event.Cancel other) known h) (stays_so number kept now mid (event.Cancel other) tt r h) runs kept_so
-goes laws number kept now new ((event.Deliver openings most copy) ∷ es) known r (mid, h, runs) kept_so = goes laws number kept mid new es (whatever laws now mid (event.Deliver openings most copy) known h) (stays_so number kept now mid (event.Deliver openings most copy) tt r h) runs kept_so
+goes laws number kept now new ((event.Deliver openings most copy further) ∷ es) known r (mid, h, runs) kept_so = goes laws number kept mid new es (whatever laws now mid (event.Deliver openings most copy further) known h) (stays_so number kept now mid (event.Deliver openings most copy further) tt r h) runs kept_so
 goes laws number kept now new (event.Refuse ∷ es) known r (mid, h, runs) kept_so = goes laws number kept mid new es (whatever laws now mid event.Refuse known h) (stays_so number kept now mid event.Refuse tt r h) runs kept_so
 goes laws number kept now new (event.Connect ∷ es) known r (mid, h, runs) kept_so = goes laws number kept mid new es (whatever laws now mid event.Connect known h) (stays_so number kept now mid event.Connect tt r h) runs kept_so
 goes laws number kept now new (event.Miss ∷ es) known r (mid, h, runs) kept_so = goes laws number kept mid new es (whatever laws now mid event.Miss known h) (stays_so number kept now mid event.Miss tt r h) runs kept_so
@@ -253,7 +308,7 @@ goes laws number kept now new ((event.Break most fewer why) ∷ es) known r (mid
 goes laws number kept now new ((event.Hear most) ∷ es) known r (mid, h, runs) kept_so = goes laws number kept mid new es (whatever laws now mid (event.Hear most) known h) (stays_so number kept now mid (event.Hear most) tt r h) runs kept_so
 goes laws number kept now new ((event.End why) ∷ es) known r (mid, h, runs) kept_so = goes laws number kept mid new es (whatever laws now mid (event.End why) known h) (stays_so number kept now mid (event.End why) tt r h) runs kept_so
 goes laws number kept now new (event.HangUp ∷ es) known r (mid, h, runs) kept_so = goes laws number kept mid new es (whatever laws now mid event.HangUp known h) (stays_so number kept now mid event.HangUp tt r h) runs kept_so
-goes laws number kept now new (event.Pause ∷ es) known r (mid, h, runs) kept_so = goes laws number kept mid new es (whatever laws now mid event.Pause known h) (stays_so number kept now mid event.Pause tt r h) runs kept_so
+goes laws number kept now new (event.News ∷ es) known r (mid, h, runs) kept_so = goes laws number kept mid new es (whatever laws now mid event.News known h) (stays_so number kept now mid event.News tt r h) runs kept_so
 goes laws number kept now new (event.Tell ∷ es) known r (mid, h, runs) kept_so = goes laws number kept mid new es (whatever laws now mid event.Tell known h) (stays_so number kept now mid event.Tell tt r h) runs kept_so
 goes laws number kept now new ((event.OnWire e) ∷ es) known r (mid, h, runs) kept_so = goes laws number kept mid new es (whatever laws now mid (event.OnWire e) known h) (stays_so number kept now mid (event.OnWire e) tt r h) runs kept_so
 goes laws number kept now new (event.Idle ∷ es) known r (mid, h, runs) kept_so = goes laws number kept mid new es (whatever laws now mid event.Idle known h) (stays_so number kept now mid event.Idle tt r h) runs kept_so
@@ -274,9 +329,10 @@ one_tried kept hand held h wire talk number closing hand_is same account waits_t
 
 answered_at : (kept : List Entry) (b : Book) (e : HostEvent) (talk : Talk) (left number : ℕ) (before h : HostView) (s : Stage) → b.tries.items ≡ tries kept
     → ((closing : ℕ) → Waits kept number → HasTry (tries kept) number closing → talk.number ≡ number) → IsAnswerTo kept talk e number → MachineTurns b e talk left before h s
-    → s ≡ recording number
-answered_at kept b (heard.Recorded place) talk left number before h s book one is (same, now) = now ∙ ap printed is
-answered_at kept b (heard.Late id) talk left number before h s book one (waits, closes) (inl (own, same, now)) = now ∙ ap printed (one closes.0 waits closes.3)
+    → IsRecordingAt number s
+answered_at kept b (heard.Recorded place) talk left number before h s book one is (same, inl now) = subst (IsRecordingAt number) (sym now) (printed_at talk.number number is)
+answered_at kept b (heard.Recorded place) talk left number before h s book one is (same, inr goes) = further_at b talk.number number talk.further before s is goes
+answered_at kept b (heard.Late id) talk left number before h s book one (waits, closes) (inl (own, same, now)) = subst (IsRecordingAt number) (sym now) (printed_at talk.number number (one closes.0 waits closes.3))
 answered_at kept b (heard.Late id) talk left number before h s book one (waits, closes) (inr (other, goes)) =
     absurd (other (subst (λ ts. ClosesTry ts talk.number id) (sym book) (subst (λ n. ClosesTry (tries kept) n id) (sym (one closes.0 waits closes.3)) closes)))
 answered_at kept b heard.None talk left number before h s book one is turns = absurd is
@@ -289,8 +345,8 @@ answer_heard : (w new : World) (most number : ℕ) → IsWorld w → HearsAnswer
 answer_heard w new most number known a =
     let v = a.hears in
     let p = parts w v.m v.was known in
-    let (held, hand_is, same, receipt, follows, records, up, reserved) = talking_holds v.m w.kept w.wire v.talk v.talks p in
-    let at : v.after.stage ≡ recording number =
+    let (held, hand_is, same, receipt, follows, records, up, reserved, news) = talking_holds v.m w.kept w.wire v.talk v.talks p in
+    let at : IsRecordingAt number v.after.stage =
     answered_at w.kept v.m.book a.event v.talk (v.talk.left - v.consumed) number a.host v.after.host v.after.stage (talking_book v.m w.kept w.wire v.talk v.talks p).tries
     (λ closing waits has. one_tried w.kept p.hand held (with_earlier p.earlier v.m.host) w.wire v.talk number closing hand_is same p.account follows.0 waits has) a.is a.turns in
     subst (IsRecording number w.kept) (sym v.is) (record { m = v.after; is = refl; at = at; more = []; each = tt; same = sym (append-nil w.kept) })

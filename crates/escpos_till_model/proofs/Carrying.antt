@@ -7,7 +7,7 @@ use Rattle.std.proofs.lemmas.List.{take-append-drop, take_min}
 use Rattle.escpos_command.specs.declared.command.Command.{Command}
 use Rattle.escpos_command.specs.declared.command.Command.TheVariants as kind
 use Rattle.escpos_command.specs.CommandTable.{AreCommands, row, spell}
-use Rattle.escpos_command.specs.Digits.{mark_count, mark_of}
+use Rattle.escpos_host.specs.Counted.{id_of}
 use Rattle.escpos_command.specs.Marks.{mark_id, marks}
 use Rattle.escpos_real_time.specs.RealTime.{HoldsRealTime}
 use Rattle.escpos_real_time.proofs.Holding.{within}
@@ -17,7 +17,7 @@ use Rattle.escpos_host.proofs.NoRealTime.{Ids, all_of_both, joined_hold_none, no
 use Rattle.escpos_host.specs.declared.host.HostEvent.{HostEvent}
 use Rattle.escpos_host.specs.declared.host.HostEvent.TheVariants as heard
 use Rattle.escpos_host.specs.declared.send.SendFault.{SendFault}
-use Rattle.escpos_host.proofs.Recording.{keeps}
+use Rattle.escpos_host.proofs.Recording.{keeps, told as told_late}
 use Rattle.escpos_host.specs.Heard.{HearsByte, IsHeard, with_half}
 use Rattle.escpos_host.specs.Earlier.{with_earlier}
 use Rattle.escpos_host.specs.Awaits.{dialled_reporting}
@@ -26,6 +26,7 @@ use Rattle.escpos_host.specs.Says.{marks_from}
 use Rattle.escpos_till.specs.declared.book.Book.{Book}
 use Rattle.escpos_till.specs.declared.entry.Entry.{Entry}
 use Rattle.escpos_till.specs.declared.entry.Entry.TheVariants as entry
+use Rattle.escpos_till.specs.declared.machine.Due.{Due}
 use Rattle.escpos_till.specs.declared.machine.Stage.{Stage}
 use Rattle.escpos_till.specs.declared.machine.Stage.TheVariants as stage
 use Rattle.escpos_till.specs.declared.machine.Talk.{Talk}
@@ -38,14 +39,14 @@ use Rattle.escpos_till.specs.Delivers.{fresh, marks_taken}
 use Rattle.escpos_till.specs.Book.{IsBookOf}
 use Rattle.escpos_till.specs.Entries.{MayFollow, next_free}
 use Rattle.escpos_till.specs.Learning.{FailsToLearn, FollowAll, Learned, LearnsAll, Revises}
-use Rattle.escpos_till.specs.Machine.{Came, Cancels, Delivers, Ended, Follows, GoesOn, HearsOne, Kept, MachineView, Queues, Raises, SameEntries, Submits, Turns as Turned, Unsure, after_note, connected, hung_up, lost, not_connected, put, told, with_pause}
+use Rattle.escpos_till.specs.Machine.{Came, Cancels, Delivers, Ended, Follows, GoesOn, HearsOne, Kept, MachineView, Queues, Raises, SameEntries, SendsNext, Submits, Turns as Turned, Unsure, after_news, after_note, connected, entry_with, hung_up, lost, not_connected, put, told, with_pause}
 use Rattle.escpos_till.proofs.EntryLemmas.{next_after_cancelled, next_after_key, next_after_queued, next_after_raised, next_after_recorded, next_after_tried}
 use Rattle.escpos_till_model.specs.declared.event.Happening.{Happening}
 use Rattle.escpos_till_model.specs.declared.event.Happening.TheVariants as event
 use Rattle.escpos_till_model.specs.Carried.{AreApart, Carried, Carries, HasOwnMarks, limit_of, link_at, link_by, link_of, links_after, numbers_from, out_of, with_put}
-use Rattle.escpos_till_model.specs.Known.{BookMayLag, Holds, IsMachineIn, IsToKeep, IsWorld}
+use Rattle.escpos_till_model.specs.Known.{BookMayLag, Holds, IsHostOf, IsMachineIn, IsToKeep, IsToSendNext, IsWorld}
 use Rattle.escpos_till_model.specs.Kept.{Hand}
-use Rattle.escpos_till_model.specs.World.{Learns, Breaks, FitsLine, Happens, Hears, IsSendable, Moves, Puts, Runs, Stores, TellsPause, World, with_entry, without_entry}
+use Rattle.escpos_till_model.specs.World.{Learns, Breaks, FitsLine, Happens, Hears, IsSendable, Moves, Puts, Runs, Stores, StoresBoth, TellsNews, World, with_entry, without_entry}
 use Rattle.escpos_till_model.proofs.Queueing.{queues_to}
 use Rattle.escpos_till_model.proofs.LinesKept.{LineLaws, down_or_up}
 use Rattle.escpos_till_model.proofs.Worlds.{whatever}
@@ -55,18 +56,18 @@ use Rattle.escpos_till_model.proofs.Worlds.{whatever}
 marks_of_both : (some others : List Command) → marks (some ++ others) ≡ marks some ++ marks others
 marks_of_both some others = flat_map-append (λ c. option_to_list (mark_id c)) some others
 
-marks_of_openings : (count first : ℕ) → marks (marks_from count first) ≡ map mark_of (numbers_from count first)
+marks_of_openings : (count first : ℕ) → marks (marks_from count first) ≡ map id_of (numbers_from count first)
 marks_of_openings zero first = refl
-marks_of_openings (suc count) first = ap (λ ids. mark_of first ∷ ids) (marks_of_openings count (first + 1))
+marks_of_openings (suc count) first = ap (λ ids. id_of first ∷ ids) (marks_of_openings count (first + 1))
 
 one_number_more : (count first : ℕ) → numbers_from (suc count) first ≡ numbers_from count first ++ (first + count) ∷ []
 one_number_more zero first = ap (λ n. n ∷ []) (let so : first ≡ first + 0 = omega arith in so)
 one_number_more (suc count) first =
     ap (λ ns. first ∷ ns) (one_number_more count (first + 1) ∙ ap (λ n. numbers_from count (first + 1) ++ n ∷ []) (let so : first + 1 + count ≡ first + suc count = omega arith in so))
 
-map_one_more : (ns : List ℕ) (n : ℕ) → map mark_of (ns ++ n ∷ []) ≡ map mark_of ns ++ mark_of n ∷ []
+map_one_more : (ns : List ℕ) (n : ℕ) → map id_of (ns ++ n ∷ []) ≡ map id_of ns ++ id_of n ∷ []
 map_one_more [] n = refl
-map_one_more (k ∷ ns) n = ap (λ ids. mark_of k ∷ ids) (map_one_more ns n)
+map_one_more (k ∷ ns) n = ap (λ ids. id_of k ∷ ids) (map_one_more ns n)
 
 -- ## What holds of the links, whatever happens
 
@@ -77,7 +78,7 @@ pub record IsSaying (l : Carried) (h : HostView) (receipt : Option (List Command
   pub begins : spell said ≡ l.bytes ++ h.out
   pub commands : AreCommands said
   pub no_real_time : HoldNoRealTime said
-  pub marks_are : marks said ≡ map mark_of (numbers_from used l.first)
+  pub marks_are : marks said ≡ map id_of (numbers_from used l.first)
   pub next_is : h.next ≡ l.first + used
   pub within : h.next ≤ l.limit
   pub left : (some : List Command) → receipt ≡ Some some → h.next < l.limit
@@ -182,6 +183,8 @@ lost_quiet then.Raised why = tt
 lost_quiet (then.Cancelled number tried) why = tt
 lost_quiet (then.Send due) why = tt
 lost_quiet (then.Recorded number) why = tt
+lost_quiet (then.GoOn number tried due) why = tt
+lost_quiet (then.SendNext recorded due) why = tt
 
 -- ## An entry more
 
@@ -204,73 +207,7 @@ moved_on Goes w new notes low links moves on c = record {
   talks = subst (λ k. MachineOn k.machine links) (sym moves.is) (on moves.m moves.after moves.goes (subst (λ o. MachineOn o links) moves.was c.talks));
 }
 
--- ## An entry is kept
-
-pub kept_by : Ids → (next : Then) (low : ℕ) (links : List Carried) (kept : List Entry) (hand : Option Hand) (h : HostView) (m after : MachineView) (e : Entry) → m.book.next ≡ next_free kept
-    → MayFollow kept e → IsToKeep kept hand h e next → Follows next m.host m.book.next after.book after.host after.stage → AreApart low links (next_free kept) → AllByRecursion HasOwnMarks links
-    → AreApart low (link_of next e (next_free kept) ++ links) (next_free (kept ++ e ∷ [])) × AllByRecursion HasOwnMarks (link_of next e (next_free kept) ++ links)
-    × TalksOn after.stage after.host (link_of next e (next_free kept) ++ links)
-kept_by ids then.Queued low links kept hand h m after e first may keeps (number, is, host, at) apart own =
-    (apart_more low (next_free kept) (next_free (kept ++ e ∷ [])) links (grows kept e may) apart, own, quiet_on after.stage after.host links (subst IsQuiet (sym at) tt))
-kept_by ids (then.Take content) low links kept hand h m after e first may keeps (host, at) apart own =
-    (apart_more low (next_free kept) (next_free (kept ++ e ∷ [])) links (grows kept e may) apart, own, quiet_on after.stage after.host links (subst IsQuiet (sym at) tt))
-kept_by ids then.Raised low links kept hand h m after e first may keeps (host, at) apart own =
-    (apart_more low (next_free kept) (next_free (kept ++ e ∷ [])) links (grows kept e may) apart, own, quiet_on after.stage after.host links (subst IsQuiet (sym at) tt))
-kept_by ids (then.Cancelled number tried) low links kept hand h m after e first may keeps (host, at) apart own =
-    (apart_more low (next_free kept) (next_free (kept ++ e ∷ [])) links (grows kept e may) apart, own, quiet_on after.stage after.host links (subst IsQuiet (sym at) tt))
-kept_by ids (then.Recorded number) low links kept hand h m after e first may keeps (drops, at) apart own =
-    (apart_more low (next_free kept) (next_free (kept ++ e ∷ [])) links (grows kept e may) apart, own, quiet_on after.stage after.host links (subst IsQuiet (sym at) tt))
-kept_by ids (then.Send due) low links kept hand h m after e first may keeps follows apart own =
-    let openings : ℕ = max due.openings 1 in
-    let is : e ≡ entry.Tried due.number (next_free kept + marks_taken due.openings) = keeps.2 in
-    let limit : limit_of e ≡ next_free kept + marks_taken due.openings = ap limit_of is in
-    let after_it : next_free (kept ++ e ∷ []) ≡ next_free kept + marks_taken due.openings =
-    ap (λ x. next_free (kept ++ x ∷ [])) is ∙ next_after_tried kept due.number (next_free kept + marks_taken due.openings) in
-    let enough : next_free kept + openings ≤ mark_count = omega (arith, keeps.1.within) in
-    let l : Carried = record { first = next_free kept; limit = limit_of e; bytes = [] } in (
-      (omega (arith, limit, after_it), omega (arith, limit), apart),
-      (record { said = []; unsaid = []; used = 0; begins = refl; commands = tt; marks_are = refl; within = omega (arith, limit); no_real_time = nothing_held }, own),
-      elim follows [
-        | inl opened ↦
-            let host : after.host ≡ dialled_reporting (fresh (next_free kept)) openings = opened.0 ∙ ap (λ f. dialled_reporting (fresh f) openings) first in
-            subst (λ s. TalksOn s after.host (l ∷ links)) (sym opened.1) (subst (λ v. IsSaying l v (Some due.receipt)) (sym host) (record {
-              said = ask_reports ∷ marks_from openings (next_free kept);
-              used = openings;
-              begins = refl;
-              commands = (refl, openings_in_range ids openings (next_free kept) enough);
-              no_real_time = joined_hold_none (ask_reports ∷ []) (marks_from openings (next_free kept)) (openings_in_range ids openings (next_free kept) enough) reports_hold_none
-                  (openings_hold_none ids openings (next_free kept) enough);
-              marks_are = marks_of_openings openings (next_free kept);
-              next_is = refl;
-              within = omega (arith, limit);
-              left = λ commands some. omega (arith, limit);
-            }))
-        | inr refused ↦ quiet_on after.stage after.host (l ∷ links) (subst IsQuiet (sym refused.2) tt)
-      ],
-    )
-
--- A pause is told, and the talk goes on.
-pub paused_on : (m after : MachineView) (links : List Carried) (talk : Talk) → m.stage ≡ stage.Talking talk → after ≡ told m.stage m → TalksOn m.stage m.host links → TalksOn after.stage after.host links
-paused_on m after links talk at is says =
-    subst (λ k. TalksOn k.stage k.host links) (sym (is ∙ ap (λ s. told s m) at)) (subst (λ s. TalksOn s m.host links) at says)
-
-kept_carried : Ids → (w new : World) (low : ℕ) (links : List Carried) → IsWorld w → AreCarried low w links → Happens w event.Keep new → AreCarried low new (links_after w event.Keep links)
-kept_carried ids w new low links known c stores =
-    let m : MachineView = stores.moves.m in
-    let after : MachineView = stores.moves.after in
-    let e : Entry = stores.entry in
-    let is : m.stage ≡ stage.Keeping e stores.next = stores.moves.goes.0 in
-    let here = subst (λ o. IsMachineIn o w.kept known.hand (with_earlier known.earlier known.host)) stores.moves.was known.machine in
-    let holds = subst (Holds w.kept known.hand (with_earlier known.earlier known.host)) is here.1 in
-    let book = (subst (λ s. (BookMayLag s → ⊥) → IsBookOf m.book w.kept) is here.0) (λ no. no) in
-    let kept = subst (λ s. Kept s m after) is stores.moves.goes.1 in
-    let link : link_by w.machine (next_free w.kept) ≡ link_of stores.next e (next_free w.kept) = ap (λ o. link_by o (next_free w.kept)) stores.moves.was ∙ ap (λ s. link_at s (next_free w.kept)) is in
-    let (apart, own, talks) = kept_by ids stores.next low links w.kept known.hand (with_earlier known.earlier known.host) m after e book.next holds.0 holds.1 kept.1 c.apart c.own in
-    subst (λ ls. AreCarried low new (ls ++ links)) (sym link) (record {
-      apart = subst (λ k. AreApart low (link_of stores.next e (next_free w.kept) ++ links) (next_free k.kept)) (sym stores.moves.is) apart;
-      own = own;
-      talks = subst (λ k. MachineOn k.machine (link_of stores.next e (next_free w.kept) ++ links)) (sym stores.moves.is) talks;
-    })
+-- ## An entry isn't kept, or others are
 
 -- The store fails: no link is opened for the entry.
 failed_carried : (w new : World) (low : ℕ) (links : List Carried) (why : StoreFault) (has : List Entry → Entry → List Entry) → IsWorld w → ((e : Entry) → MayFollow w.kept e → next_free w.kept ≤ next_free (has w.kept e))
@@ -289,6 +226,43 @@ failed_carried w new low links why has known more c stores =
           (quiet_on stores.moves.after.stage stores.moves.after.host links (subst IsQuiet (sym unsure.2) (lost_quiet stores.next why)));
     }
 
+pub both_grow : (kept : List Entry) (e f : Entry) → MayFollow kept e → MayFollow (kept ++ e ∷ []) f → next_free kept ≤ next_free (kept ++ e ∷ f ∷ [])
+both_grow kept e f follows then_follows =
+    let one = grows kept e follows in
+    let two = grows (kept ++ e ∷ []) f then_follows in
+    let same : next_free ((kept ++ e ∷ []) ++ f ∷ []) ≡ next_free (kept ++ e ∷ f ∷ []) = ap next_free (append_assoc kept (e ∷ []) (f ∷ [])) in
+    omega (arith, one, two, same)
+
+pub second_follows : (next : Then) (kept : List Entry) (hand : Option Hand) (h : HostView) (e f : Entry) → IsToKeep kept hand h e next → entry_with next ≡ Some f → MayFollow (kept ++ e ∷ []) f
+second_follows (then.GoOn number tried due) kept hand h e f keeps with =
+    let same : tried ≡ f = (let both : Some tried ≡ Some f = with in cc) in
+    subst (MayFollow (kept ++ e ∷ [])) same keeps.1.follows
+second_follows then.Queued kept hand h e f keeps with = absurd (let bad : None ≡ Some f = with in cc)
+second_follows (then.Take content) kept hand h e f keeps with = absurd (let bad : None ≡ Some f = with in cc)
+second_follows then.Raised kept hand h e f keeps with = absurd (let bad : None ≡ Some f = with in cc)
+second_follows (then.Cancelled number tried) kept hand h e f keeps with = absurd (let bad : None ≡ Some f = with in cc)
+second_follows (then.Send due) kept hand h e f keeps with = absurd (let bad : None ≡ Some f = with in cc)
+second_follows (then.Recorded number) kept hand h e f keeps with = absurd (let bad : None ≡ Some f = with in cc)
+second_follows (then.SendNext number due) kept hand h e f keeps with = absurd (let bad : None ≡ Some f = with in cc)
+
+-- It fails, and has both entries that are to be kept together.
+failed_with_both : (w new : World) (low : ℕ) (links : List Carried) (why : StoreFault) → IsWorld w → AreCarried low w links → StoresBoth (λ m after. Unsure m.stage why m after) w new
+    → AreCarried low new links
+failed_with_both w new low links why known c stores =
+    let m : MachineView = stores.moves.m in
+    let is : m.stage ≡ stage.Keeping stores.entry stores.next = stores.moves.goes.0 in
+    let here = subst (λ o. IsMachineIn o w.kept known.hand (with_earlier known.earlier known.host)) stores.moves.was known.machine in
+    let holds = subst (Holds w.kept known.hand (with_earlier known.earlier known.host)) is here.1 in
+    let unsure = subst (λ s. Unsure s why m stores.moves.after) is stores.moves.goes.1 in
+    let follows = second_follows stores.next w.kept known.hand (with_earlier known.earlier known.host) stores.entry stores.second holds.1 stores.with in
+    record {
+      apart = subst (λ k. AreApart low links (next_free k.kept)) (sym stores.moves.is)
+          (apart_more low (next_free w.kept) (next_free (w.kept ++ stores.entry ∷ stores.second ∷ [])) links (both_grow w.kept stores.entry stores.second holds.0 follows) c.apart);
+      own = c.own;
+      talks = subst (λ k. MachineOn k.machine links) (sym stores.moves.is)
+          (quiet_on stores.moves.after.stage stores.moves.after.host links (subst IsQuiet (sym unsure.2) (lost_quiet stores.next why)));
+    }
+
 -- Others have added entries: a machine that learns that puts nothing, and the next mark number doesn't fall.
 pub others_grow : (kept others : List Entry) → FollowAll kept others → next_free kept ≤ next_free (kept ++ others)
 others_grow kept [] follow = omega (arith, ap next_free (append-nil kept))
@@ -300,10 +274,14 @@ others_grow kept (e ∷ others) (follows, follow) =
 
 revised_quiet : (next : Then) (b : Book) (before h : HostView) (s : Stage) → Revises next b before h s → IsQuiet s
 revised_quiet (then.Send due) b before h s (inl (waits, marks, same, at)) = subst IsQuiet (sym at) tt
-revised_quiet (then.Send due) b before h s (inr (inl (few, drops, at))) = subst IsQuiet (sym at) tt
+revised_quiet (then.Send due) b before h s (inr (inl (waits, few, drops, at))) = subst IsQuiet (sym at) tt
 revised_quiet (then.Send due) b before h s (inr (inr (tried, cancelled, drops, at))) = subst IsQuiet (sym at) tt
 revised_quiet (then.Recorded number) b before h s (inl (waits, same, at)) = subst IsQuiet (sym at) tt
 revised_quiet (then.Recorded number) b before h s (inr (tried, cancelled, drops, at)) = subst IsQuiet (sym at) tt
+revised_quiet (then.GoOn number tried due) b before h s (inl (waits, same, inl at)) = subst IsQuiet (sym at) tt
+revised_quiet (then.GoOn number tried due) b before h s (inl (waits, same, inr further)) = subst IsQuiet (sym further.stage_is) tt
+revised_quiet (then.GoOn number tried due) b before h s (inr (times, cancelled, drops, at)) = subst IsQuiet (sym at) tt
+revised_quiet (then.SendNext recorded due) b before h s (drops, at) = subst IsQuiet (sym at) tt
 revised_quiet then.Queued b before h s none = absurd none
 revised_quiet (then.Take content) b before h s none = absurd none
 revised_quiet then.Raised b before h s none = absurd none
@@ -445,7 +423,7 @@ byte_says heard.None h byte at h' (inr (inl misfits)) good = absurd misfits
 byte_says heard.None h byte at h' (inr (inr (a, spells, (ignores, same)))) good = same_by h h' _ refl refl same
 byte_says heard.Opened h byte at h' (inl grown) good = absurd grown
 byte_says heard.Opened h byte at h' (inr (inl misfits)) good = absurd misfits
-byte_says heard.Opened h byte at h' (inr (inr (a, spells, (first, id, phase, is, mark, same)))) good = same_by h h' _ refl refl same
+byte_says heard.Opened h byte at h' (inr (inr (a, spells, (first, n, id, phase, is, mark, same)))) good = same_by h h' _ refl refl same
 byte_says (heard.Recorded number) h byte at h' (inl grown) good = absurd grown
 byte_says (heard.Recorded number) h byte at h' (inr (inl misfits)) good = absurd misfits
 byte_says (heard.Recorded number) h byte at h' (inr (inr (a, spells, (id, is, r)))) good = let kept = keeps (with_half h []) h' id number r in (kept.out, kept.next)
@@ -457,7 +435,8 @@ byte_says (heard.Condition block) h byte at h' (inr (inl misfits)) good = absurd
 byte_says (heard.Condition block) h byte at h' (inr (inr (a, spells, (is, same)))) good = same_by h h' _ refl refl same
 byte_says (heard.Late id) h byte at h' (inl grown) good = absurd grown
 byte_says (heard.Late id) h byte at h' (inr (inl misfits)) good = absurd misfits
-byte_says (heard.Late id) h byte at h' (inr (inr (a, spells, (first, phase, is, other, unleft, same)))) good = same_by h h' _ refl refl same
+byte_says (heard.Late id) h byte at h' (inr (inr (a, spells, (first, phase, is, other, unleft, late)))) good =
+    let t = told_late (with_half h []) h' first id phase late in (t.keeps.out, t.keeps.next)
 byte_says (heard.BadAnswer place) h byte at h' hears good = absurd good
 
 heard_says : (e : HostEvent) (h : HostView) (bytes : List ℕ) (count : ℕ) (h' : HostView) → IsHeard h bytes count e h' → IsGood e → SaysSame h h'
@@ -491,22 +470,22 @@ asked_says l h receipt says = record {
 }
 
 -- The receipt is put out, with one more mark.
-submitted_says : Ids → (l : Carried) (h : HostView) (flight : List InFlight) (commands : List Command) → IsSaying l h (Some commands) → IsSendable commands → h.next < mark_count
+submitted_says : Ids → (l : Carried) (h : HostView) (flight : List InFlight) (commands : List Command) → IsSaying l h (Some commands) → IsSendable commands
     → IsSaying l (submitted h flight commands) None
-submitted_says ids l h flight commands says sendable high =
+submitted_says ids l h flight commands says sendable =
     let more : List Command = kind.Init ∷ (commands ++ next_mark h ∷ []) in
     let fewer : h.next < l.limit = says.left commands refl in
-    let marked : marks more ≡ mark_of h.next ∷ [] = marks_of_both commands (next_mark h ∷ []) ∙ ap (λ ids. ids ++ mark_of h.next ∷ []) sendable.fits.0 in
+    let marked : marks more ≡ id_of h.next ∷ [] = marks_of_both commands (next_mark h ∷ []) ∙ ap (λ ids. ids ++ id_of h.next ∷ []) sendable.fits.0 in
     record {
       said = says.said ++ more;
       used = suc says.used;
       begins = flat_map-append row says.said more ∙ ap (λ k. k ++ spell more) says.begins ∙ append_assoc l.bytes h.out (spell more);
-      commands = all_of_both says.said more says.commands (refl, all_of_both commands (next_mark h ∷ []) sendable.fits.1 (ids h.next high, tt));
-      no_real_time = joined_hold_none says.said more (refl, all_of_both commands (next_mark h ∷ []) sendable.fits.1 (ids h.next high, tt)) says.no_real_time
-          (sent_holds_none ids commands h.next sendable.fits.1 high sendable.no_real_time);
-      marks_are = marks_of_both says.said more ∙ ap (λ ids. ids ++ marks more) says.marks_are ∙ ap (λ ids. map mark_of (numbers_from says.used l.first) ++ ids) marked
-          ∙ ap (λ n. map mark_of (numbers_from says.used l.first) ++ mark_of n ∷ []) says.next_is ∙ sym (map_one_more (numbers_from says.used l.first) (l.first + says.used))
-          ∙ ap (map mark_of) (sym (one_number_more says.used l.first));
+      commands = all_of_both says.said more says.commands (refl, all_of_both commands (next_mark h ∷ []) sendable.fits.1 (ids h.next, tt));
+      no_real_time = joined_hold_none says.said more (refl, all_of_both commands (next_mark h ∷ []) sendable.fits.1 (ids h.next, tt)) says.no_real_time
+          (sent_holds_none ids commands h.next sendable.fits.1 sendable.no_real_time);
+      marks_are = marks_of_both says.said more ∙ ap (λ ids. ids ++ marks more) says.marks_are ∙ ap (λ ids. map id_of (numbers_from says.used l.first) ++ ids) marked
+          ∙ ap (λ n. map id_of (numbers_from says.used l.first) ++ id_of n ∷ []) says.next_is ∙ sym (map_one_more (numbers_from says.used l.first) (l.first + says.used))
+          ∙ ap (map id_of) (sym (one_number_more says.used l.first));
       next_is = omega (arith, says.next_is);
       within = omega (arith, fewer);
       left = λ others some. absurd (let bad : None ≡ Some others = some in cc);
@@ -516,7 +495,7 @@ submits_says : Ids → (l : Carried) (ls : List Carried) (talk : Talk) (receipt 
     → ((commands : List Command) → talk.receipt ≡ Some commands → IsSendable commands) → Submits talk receipt left h after.host after.stage → TalksOn after.stage after.host (l ∷ ls)
 submits_says ids l ls talk (Some commands) (suc left) h after is says fits (inl ((phase, mark, same), at)) =
     subst (λ s. TalksOn s after.host (l ∷ ls)) (sym at)
-    (subst (λ v. IsSaying l v None) (sym same) (submitted_says ids l (reports_asked h) [] commands (asked_says l h (Some commands) (subst (IsSaying l h) is says)) (fits commands is) mark))
+    (subst (λ v. IsSaying l v None) (sym same) (submitted_says ids l (reports_asked h) [] commands (asked_says l h (Some commands) (subst (IsSaying l h) is says)) (fits commands is)))
 submits_says ids l ls talk (Some commands) (suc left) h after is says fits (inr (why, refuses, drops, at)) = quiet_on after.stage after.host (l ∷ ls) (subst IsQuiet (sym at) tt)
 submits_says ids l ls talk (Some commands) zero h after is says fits so = goes_says l ls talk zero h after says so
 submits_says ids l ls talk None left h after is says fits so = goes_says l ls talk left h after says so
@@ -532,13 +511,14 @@ turned_says ids b (heard.Late id) l ls talk left before h after says same fits (
     goes_says l ls talk left h after (saying_for l before h talk.receipt (same tt).0 (same tt).1 says) turned
 turned_says ids b heard.Opened l ls talk left before h after says same fits turned =
     submits_says ids l ls talk talk.receipt left h after refl (saying_for l before h talk.receipt (same tt).0 (same tt).1 says) fits turned
-turned_says ids b (heard.Recorded place) l ls talk left before h after says same fits (host, is) = quiet_on after.stage after.host (l ∷ ls) (subst IsQuiet (sym is) tt)
+turned_says ids b (heard.Recorded place) l ls talk left before h after says same fits (host, inl is) = quiet_on after.stage after.host (l ∷ ls) (subst IsQuiet (sym is) tt)
+turned_says ids b (heard.Recorded place) l ls talk left before h after says same fits (host, inr further) = quiet_on after.stage after.host (l ∷ ls) (subst IsQuiet (sym further.stage_is) tt)
 turned_says ids b (heard.BadAnswer place) l ls talk left before h after says same fits (drops, is) = quiet_on after.stage after.host (l ∷ ls) (subst IsQuiet (sym is) tt)
 
 pub came_says : Ids → (links : List Carried) (talk : Talk) (m after : MachineView) (bytes : List ℕ) (count : ℕ) → SaysOn links m.host talk.receipt → ((commands : List Command) → talk.receipt ≡ Some commands → IsSendable commands)
     → Came (stage.Talking talk) bytes count m after → TalksOn after.stage after.host links
 came_says ids [] talk m after bytes count says fits came = absurd says
-came_says ids (l ∷ ls) talk m after bytes count says fits (e, h, hears, turned, book) =
+came_says ids (l ∷ ls) talk m after bytes count says fits (e, h, hears, turned, book, all) =
     turned_says ids m.book e l ls talk (talk.left - count) m.host h after says (hears_says e m.host bytes count h hears) fits turned
 
 hears_carried : Ids → (w new : World) (low : ℕ) (links : List Carried) (most : ℕ) → IsWorld w → AreCarried low w links → Hears w most new → AreCarried low new links
@@ -554,6 +534,118 @@ hears_carried ids w new low links most known c hears =
       talks = subst (λ k. MachineOn k.machine links) (sym hears.is)
           (came_says ids links hears.talk m hears.after (take most w.wire.coming) hears.consumed says (λ commands some. (holds.7 commands some).1) came);
     }
+
+-- ## An entry is kept
+
+-- The next receipt is sent over the host's link: it has mark numbers of its own.
+pub sent_next : Ids → (low : ℕ) (links : List Carried) (kept : List Entry) (number : ℕ) (due : Due) (h : HostView) (m after : MachineView) (e : Entry)
+    → (m.host.out ≡ h.out) × (m.host.next ≡ h.next) → IsToSendNext kept h due e → SendsNext number due m.host after.host after.stage → AreApart low links (next_free kept) → AllByRecursion HasOwnMarks links
+    → AreApart low (link_of (then.SendNext number due) e (next_free kept) ++ links) (next_free (kept ++ e ∷ []))
+    × AllByRecursion HasOwnMarks (link_of (then.SendNext number due) e (next_free kept) ++ links)
+    × TalksOn after.stage after.host (link_of (then.SendNext number due) e (next_free kept) ++ links)
+unfolding HoldNoRealTime
+sent_next ids low links kept number due h m after e host_same sends follows apart own =
+    let limit : limit_of e ≡ next_free kept + 1 = ap limit_of sends.tried_is in
+    let after_it : next_free (kept ++ e ∷ []) ≡ next_free kept + 1 = ap (λ x. next_free (kept ++ x ∷ [])) sends.tried_is ∙ next_after_tried kept due.number (next_free kept + 1) in
+    let l : Carried = record { first = next_free kept; limit = limit_of e; bytes = [] } in (
+      (omega (arith, limit, after_it), omega (arith, limit), apart),
+      (record { said = []; unsaid = []; used = 0; begins = refl; commands = tt; marks_are = refl; within = omega (arith, limit); no_real_time = nothing_held }, own),
+      elim follows [
+        | inl ((phase, mark, same), at) ↦
+            let out : m.host.out ≡ [] = host_same.0 ∙ sends.quiet in
+            let next : m.host.next ≡ next_free kept = host_same.1 ∙ sends.marks in
+            let says : IsSaying l m.host (Some due.receipt) = record {
+              said = [];
+              used = 0;
+              begins = sym out;
+              commands = tt;
+              no_real_time = nothing_held;
+              marks_are = refl;
+              next_is = omega (arith, next);
+              within = omega (arith, next, limit);
+              left = λ commands some. omega (arith, next, limit);
+            } in
+            subst (λ s. TalksOn s after.host (l ∷ links)) (sym at)
+            (subst (λ v. IsSaying l v None) (sym same) (submitted_says ids l (reports_asked m.host) [] due.receipt (asked_says l m.host (Some due.receipt) says) sends.fits))
+        | inr (why, refuses, drops, at) ↦ quiet_on after.stage after.host (l ∷ links) (subst IsQuiet (sym at) tt)
+      ],
+    )
+
+pub kept_by : Ids → (next : Then) (low : ℕ) (links : List Carried) (kept : List Entry) (hand : Option Hand) (h : HostView) (m after : MachineView) (e : Entry) → m.book.next ≡ next_free kept
+    → (m.host.out ≡ h.out) × (m.host.next ≡ h.next) → MayFollow kept e → IsToKeep kept hand h e next → Follows next m.host m.book.next after.book after.host after.stage → AreApart low links (next_free kept) → AllByRecursion HasOwnMarks links
+    → AreApart low (link_of next e (next_free kept) ++ links) (next_free (kept ++ e ∷ [])) × AllByRecursion HasOwnMarks (link_of next e (next_free kept) ++ links)
+    × TalksOn after.stage after.host (link_of next e (next_free kept) ++ links)
+kept_by ids then.Queued low links kept hand h m after e first host_same may keeps (number, is, host, at) apart own =
+    (apart_more low (next_free kept) (next_free (kept ++ e ∷ [])) links (grows kept e may) apart, own, quiet_on after.stage after.host links (subst IsQuiet (sym at) tt))
+kept_by ids (then.Take content) low links kept hand h m after e first host_same may keeps (host, at) apart own =
+    (apart_more low (next_free kept) (next_free (kept ++ e ∷ [])) links (grows kept e may) apart, own, quiet_on after.stage after.host links (subst IsQuiet (sym at) tt))
+kept_by ids then.Raised low links kept hand h m after e first host_same may keeps (host, at) apart own =
+    (apart_more low (next_free kept) (next_free (kept ++ e ∷ [])) links (grows kept e may) apart, own, quiet_on after.stage after.host links (subst IsQuiet (sym at) tt))
+kept_by ids (then.Cancelled number tried) low links kept hand h m after e first host_same may keeps (host, at) apart own =
+    (apart_more low (next_free kept) (next_free (kept ++ e ∷ [])) links (grows kept e may) apart, own, quiet_on after.stage after.host links (subst IsQuiet (sym at) tt))
+kept_by ids (then.Recorded number) low links kept hand h m after e first host_same may keeps (drops, at) apart own =
+    (apart_more low (next_free kept) (next_free (kept ++ e ∷ [])) links (grows kept e may) apart, own, quiet_on after.stage after.host links (subst IsQuiet (sym at) tt))
+kept_by ids (then.GoOn number tried due) low links kept hand h m after e first host_same may keeps (host, at) apart own =
+    (apart_more low (next_free kept) (next_free (kept ++ e ∷ [])) links (grows kept e may) apart, own, quiet_on after.stage after.host links (subst IsQuiet (sym at) tt))
+kept_by ids (then.SendNext number due) low links kept hand h m after e first host_same may (held, hand_is, records, sends, so) follows apart own =
+    sent_next ids low links kept number due h m after e host_same sends follows apart own
+kept_by ids (then.Send due) low links kept hand h m after e first host_same may keeps follows apart own =
+    let openings : ℕ = max due.openings 1 in
+    let is : e ≡ entry.Tried due.number (next_free kept + marks_taken due.openings) = keeps.2 in
+    let limit : limit_of e ≡ next_free kept + marks_taken due.openings = ap limit_of is in
+    let after_it : next_free (kept ++ e ∷ []) ≡ next_free kept + marks_taken due.openings =
+    ap (λ x. next_free (kept ++ x ∷ [])) is ∙ next_after_tried kept due.number (next_free kept + marks_taken due.openings) in
+    let l : Carried = record { first = next_free kept; limit = limit_of e; bytes = [] } in (
+      (omega (arith, limit, after_it), omega (arith, limit), apart),
+      (record { said = []; unsaid = []; used = 0; begins = refl; commands = tt; marks_are = refl; within = omega (arith, limit); no_real_time = nothing_held }, own),
+      elim follows [
+        | inl opened ↦
+            let host : after.host ≡ dialled_reporting (fresh (next_free kept)) openings = opened.0 ∙ ap (λ f. dialled_reporting (fresh f) openings) first in
+            subst (λ s. TalksOn s after.host (l ∷ links)) (sym opened.1) (subst (λ v. IsSaying l v (Some due.receipt)) (sym host) (record {
+              said = ask_reports ∷ marks_from openings (next_free kept);
+              used = openings;
+              begins = refl;
+              commands = (refl, openings_in_range ids openings (next_free kept));
+              no_real_time = joined_hold_none (ask_reports ∷ []) (marks_from openings (next_free kept)) (openings_in_range ids openings (next_free kept)) reports_hold_none
+                  (openings_hold_none ids openings (next_free kept));
+              marks_are = marks_of_openings openings (next_free kept);
+              next_is = refl;
+              within = omega (arith, limit);
+              left = λ commands some. omega (arith, limit);
+            }))
+        | inr refused ↦ quiet_on after.stage after.host (l ∷ links) (subst IsQuiet (sym refused.2) tt)
+      ],
+    )
+
+-- News is told, and the talk goes on.
+same_receipt : (recorded : Option ℕ) (talk : Talk) → (after_news recorded talk).receipt ≡ talk.receipt
+same_receipt (Some number) talk = refl
+same_receipt None talk = refl
+
+pub news_on : (m after : MachineView) (links : List Carried) (talk : Talk) → m.stage ≡ stage.Talking talk → after ≡ told m.stage m → TalksOn m.stage m.host links → TalksOn after.stage after.host links
+news_on m after links talk at is says =
+    subst (λ k. TalksOn k.stage k.host links) (sym (is ∙ ap (λ s. told s m) at))
+    (subst (SaysOn links m.host) (sym (same_receipt talk.recorded talk)) (subst (λ s. TalksOn s m.host links) at says))
+
+kept_carried : Ids → (w new : World) (low : ℕ) (links : List Carried) → IsWorld w → AreCarried low w links → Happens w event.Keep new → AreCarried low new (links_after w event.Keep links)
+kept_carried ids w new low links known c stores =
+    let m : MachineView = stores.moves.m in
+    let after : MachineView = stores.moves.after in
+    let e : Entry = stores.entry in
+    let is : m.stage ≡ stage.Keeping e stores.next = stores.moves.goes.0 in
+    let host_is : known.host ≡ m.host = subst (λ o. IsHostOf o known.host) stores.moves.was known.host_is in
+    let here = subst (λ o. IsMachineIn o w.kept known.hand (with_earlier known.earlier known.host)) stores.moves.was known.machine in
+    let holds = subst (Holds w.kept known.hand (with_earlier known.earlier known.host)) is here.1 in
+    let book = (subst (λ s. (BookMayLag s → ⊥) → IsBookOf m.book w.kept) is here.0) (λ no. no) in
+    let kept = subst (λ s. Kept s m after) is stores.moves.goes.1 in
+    let link : link_by w.machine (next_free w.kept) ≡ link_of stores.next e (next_free w.kept) = ap (λ o. link_by o (next_free w.kept)) stores.moves.was ∙ ap (λ s. link_at s (next_free w.kept)) is in
+    let (apart, own, talks) = kept_by ids stores.next low links w.kept known.hand (with_earlier known.earlier known.host) m after e book.next
+        (ap (λ v. v.out) (sym host_is), ap (λ v. v.next) (sym host_is)) holds.0 holds.1 kept.1 c.apart c.own in
+    subst (λ ls. AreCarried low new (ls ++ links)) (sym link) (record {
+      apart = subst (λ k. AreApart low (link_of stores.next e (next_free w.kept) ++ links) (next_free k.kept)) (sym stores.moves.is) apart;
+      own = own;
+      talks = subst (λ k. MachineOn k.machine (link_of stores.next e (next_free w.kept) ++ links)) (sym stores.moves.is) talks;
+    })
 
 -- ## Whatever happens
 
@@ -579,14 +671,15 @@ step_carried ids (event.Raise first) w new low links known moves c =
     moved_on (λ m after. Raises m first after) w new w.told low links moves (λ m after raises. quietly links m after (subst (λ k. IsQuiet k.stage) (sym raises.after_is) tt)) c
 step_carried ids (event.Cancel number) w new low links known moves c =
     moved_on (λ m after. Cancels m number after) w new w.told low links moves (λ m after cancels. quietly links m after (subst (λ k. IsQuiet k.stage) (sym cancels.after_is) tt)) c
-step_carried ids (event.Deliver openings most copy) w new low links known (is_copy, moves) c =
-    moved_on (λ m after. Delivers m openings most copy after × FitsLine after.stage) w new w.told low links moves
+step_carried ids (event.Deliver openings most copy further) w new low links known (is_copy, moves) c =
+    moved_on (λ m after. Delivers m openings most copy further after × FitsLine after.stage) w new w.told low links moves
     (λ m after delivers. quietly links m after (subst IsQuiet (sym delivers.0.connects) tt)) c
 step_carried ids event.Refuse w new low links known moves c =
     moved_on SameEntries w new w.told low links moves
     (λ m after same talks. subst (λ s. TalksOn s after.host links) (sym same.stage) (subst (λ h. TalksOn m.stage h links) (sym same.host) talks)) c
 step_carried ids event.Keep w new low links known stores c = kept_carried ids w new low links known c stores
 step_carried ids (event.FailWith why) w new low links known stores c = failed_carried w new low links why with_entry known (grows w.kept) c stores
+step_carried ids (event.FailWithBoth why) w new low links known stores c = failed_with_both w new low links why known c stores
 step_carried ids (event.FailWithout why) w new low links known stores c = failed_carried w new low links why without_entry known (λ e may. omega arith) c stores
 step_carried ids (event.Learn others) w new low links known learns c =
     learns_carried (λ next m after. LearnsAll next others m after) w new others low links (λ e next m after goes. learned_quiet e next others m after (inl goes)) c learns
@@ -603,8 +696,8 @@ step_carried ids (event.End why) w new low links known moves c =
     moved_on (λ m after. Ended m.stage why m after) w new w.told low links moves (λ m after ended. same_or_quiet m after links (ended_so m.stage why m after ended)) c
 step_carried ids event.HangUp w new low links known moves c =
     moved_on (λ m after. after ≡ hung_up m.stage m) w new w.told low links moves (λ m after is. same_or_quiet m after links (hung_so m.stage m after is)) c
-step_carried ids event.Pause w new low links known moves c =
-    moved_on TellsPause w new w.told low links moves (λ m after goes. paused_on m after links goes.talk goes.talks goes.told) c
+step_carried ids event.News w new low links known moves c =
+    moved_on TellsNews w new w.told low links moves (λ m after goes. news_on m after links goes.talk goes.talks goes.told) c
 step_carried ids event.Tell w new low links known tells c =
     moved_on _ w new (w.told ++ tells.note ∷ []) low links tells.moves
     (λ m after goes. quietly links m after (subst (λ k. IsQuiet k.stage) (sym (goes.1 ∙ ap (λ s. told s m) goes.0)) (note_quiet tells.note))) c

@@ -1,5 +1,5 @@
 -- Why what a driver puts on its links has marks of its own, deed by deed.
-use Rattle.std.proofs.Common.{ℕ, zero, suc, ◌≡◌, ◌≢◌, ◌≤◌, inl, inr, Option, Some, None, List, [], ◌∷◌, ◌++◌, take, drop, refl, sym, ◌∙◌, ap, subst, arith}
+use Rattle.std.proofs.Common.{ℕ, zero, suc, ◌≡◌, ◌≢◌, ◌≤◌, inl, inr, Option, Some, None, List, [], ◌∷◌, ◌++◌, take, drop, refl, sym, ◌∙◌, ap, subst, append_assoc, arith}
 use Rattle.std.specs.List.{AllByRecursion}
 use Rattle.std.proofs.Math.Nat.{min-eq_left}
 use Rattle.escpos_command.specs.declared.command.Command.{Command}
@@ -20,17 +20,18 @@ use Rattle.escpos_till.specs.declared.machine.Then.{Then}
 use Rattle.escpos_till.specs.declared.machine.Then.TheVariants as then
 use Rattle.escpos_till.specs.declared.machine.TillNote.{TillNote}
 use Rattle.escpos_till.specs.declared.store.StoreFault.{StoreFault}
+use Rattle.escpos_till.specs.Appending.{added}
 use Rattle.escpos_till.specs.Book.{IsBookOf}
-use Rattle.escpos_till.specs.Driver.{Breaks, Deed, DidAll, Ends, Gives, HangsUp, HearsAll, IsGiven, Keeps, Learns, Links, Loses, Misses, Pauses, Puts, Tells, Turns}
-use Rattle.escpos_till.specs.Entries.{next_free}
+use Rattle.escpos_till.specs.Driver.{Breaks, Confirms, Deed, DidAll, Ends, Gives, HangsUp, HearsAll, IsGiven, Keeps, KeepsEntry, Learns, Links, Loses, MayGoWith, Misses, Pauses, Puts, Tells, Turns}
+use Rattle.escpos_till.specs.Entries.{MayFollow, next_free}
 use Rattle.escpos_till.specs.Learning.{FollowAll, Learned}
-use Rattle.escpos_till.specs.Machine.{Came, Ended, GoesOn, Kept, MachineView, Submits, Suits, Turns as Turned, Unsure, put, told, with_pause}
+use Rattle.escpos_till.specs.Machine.{Came, Ended, Follows, GoesOn, Kept, MachineView, Submits, Suits, Turns as Turned, Unsure, entry_with, put, told, with_pause}
 use Rattle.escpos_till_model.specs.Around.{Around, Does, DoesInTime, HasNoLink, IsAround, around}
 use Rattle.escpos_till_model.specs.Carried.{AreApart, Carried, CarriesBy, HasOwnMarks, UsesMarksOnce, link_for, link_of, with_put}
 use Rattle.escpos_till_model.specs.Kept.{Hand}
-use Rattle.escpos_till_model.specs.Known.{BookMayLag, Holds, IsMachineIn, IsToKeep, IsWorld}
+use Rattle.escpos_till_model.specs.Known.{BookMayLag, Holds, IsHostOf, IsMachineIn, IsToKeep, IsToSendNext, IsWorld}
 use Rattle.escpos_till_model.specs.World.{HasCome, IsSendable, World}
-use Rattle.escpos_till_model.proofs.Carrying.{IsQuiet, SaysOn, TalksOn, apart_more, came_says, connected_so, ended_so, grows, hung_so, kept_by, learned_quiet, lost_quiet, others_grow, missed_so, note_quiet, one_put, part_put, paused_on, quiet_on, same_or_quiet}
+use Rattle.escpos_till_model.proofs.Carrying.{IsQuiet, SaysOn, TalksOn, apart_more, both_grow, came_says, connected_so, ended_so, grows, hung_so, kept_by, learned_quiet, lost_quiet, news_on, others_grow, missed_so, note_quiet, one_put, part_put, quiet_on, same_or_quiet, second_follows, sent_next}
 use Rattle.escpos_till_model.proofs.Driven.{does, shows_around}
 use Rattle.escpos_till_model.proofs.DriverDoes.{IsEnding, ends_on, lags_ends, unsure_lags}
 use Rattle.escpos_till_model.proofs.Rows.{EveryWorld}
@@ -83,11 +84,12 @@ turned_fits b (heard.Condition block) talk left h after fits (p, told, turned) =
 turned_fits b (heard.Late id) talk left h after fits (inl (closes, host, is)) = subst FitsTalk (sym is) tt
 turned_fits b (heard.Late id) talk left h after fits (inr (other, turned)) = goes_fits talk left h after fits turned
 turned_fits b heard.Opened talk left h after fits turned = submits_fits talk talk.receipt left h after fits turned
-turned_fits b (heard.Recorded place) talk left h after fits (host, is) = subst FitsTalk (sym is) tt
+turned_fits b (heard.Recorded place) talk left h after fits (host, inl is) = subst FitsTalk (sym is) tt
+turned_fits b (heard.Recorded place) talk left h after fits (host, inr further) = subst FitsTalk (sym further.stage_is) tt
 turned_fits b (heard.BadAnswer place) talk left h after fits (drops, is) = subst FitsTalk (sym is) tt
 
 came_fits : (talk : Talk) (m after : MachineView) (bytes : List ℕ) (count : ℕ) → FitsTalk (stage.Talking talk) → Came (stage.Talking talk) bytes count m after → FitsTalk after.stage
-came_fits talk m after bytes count fits (e, h, hears, turned, book) = turned_fits m.book e talk _ h after fits turned
+came_fits talk m after bytes count fits (e, h, hears, turned, book, all) = turned_fits m.book e talk _ h after fits turned
 
 one_heard : Ids → (talk : Talk) (m mid : MachineView) (bytes : List ℕ) (count : ℕ) (links : List Carried) → m.stage ≡ stage.Talking talk → FitsTalk m.stage → TalksOn m.stage m.host links
     → Came m.stage bytes count m mid → FitsTalk mid.stage × TalksOn mid.stage mid.host links
@@ -125,19 +127,53 @@ same_link then.Raised kept hand h e (none, first, is) = ap (link_for kept) is
 same_link (then.Cancelled number tried) kept hand h e (none, is, times) = ap (link_for kept) is
 same_link (then.Send due) kept hand h e (none, sends, is) = ap (link_for kept) is ∙ sym (ap (λ x. link_of (then.Send due) x (next_free kept)) is)
 same_link (then.Recorded number) kept hand h e (held, hand_is, number_is, is, fewer, up) = ap (link_for kept) is
+same_link (then.GoOn number tried due) kept hand h e ((held, hand_is, number_is, is, fewer, up), sends) = ap (link_for kept) is
+same_link (then.SendNext number due) kept hand h e (held, hand_is, records, sends, so) =
+    ap (link_for kept) sends.tried_is ∙ sym (ap (λ x. link_of (then.SendNext number due) x (next_free kept)) sends.tried_is)
 
 -- What the world knows of the machine.
-abbrev Knows : MachineView → List Entry → Option Hand → HostView → Type 0
-Knows m kept hand h = ((BookMayLag m.stage → ⊥) → IsBookOf m.book kept) × Holds kept hand h m.stage
+abbrev pub Knows : MachineView → List Entry → Option Hand → HostView → Type 0
+Knows m kept hand h = ((BookMayLag m.stage → ⊥) → IsBookOf m.book kept) × Holds kept hand h m.stage × ((m.host.out ≡ h.out) × (m.host.next ≡ h.next))
 
-keeps_on : Ids → (low : ℕ) (kept : List Entry) (hand : Option Hand) (h : HostView) (m mid : MachineView) (e : Entry) (before : List Carried) → Knows m kept hand h → Turns m (Keeps e) mid
+keeps_on : Ids → (low : ℕ) (kept : List Entry) (hand : Option Hand) (h : HostView) (m mid : MachineView) (e : Entry) (before : List Carried) → Knows m kept hand h → KeepsEntry m e mid
     → OnLinks low kept m before → OnLinks low (kept ++ e ∷ []) mid (link_for kept e ++ before)
 keeps_on ids low kept hand h m mid e before knows (next, is, keeps) on =
     let holds = subst (Holds kept hand h) is knows.1 in
     let book = (subst (λ s. (BookMayLag s → ⊥) → IsBookOf m.book kept) is knows.0) (λ no. no) in
     let so = subst (λ s. Kept s m mid) is keeps in
-    let (apart, own, talks) = kept_by ids next low before kept hand h m mid e book.next holds.0 holds.1 so.1 on.apart on.own in
+    let (apart, own, talks) = kept_by ids next low before kept hand h m mid e book.next knows.2 holds.0 holds.1 so.1 on.apart on.own in
     subst (λ ls. OnLinks low (kept ++ e ∷ []) mid (ls ++ before)) (sym (same_link next kept hand h e holds.1)) (record { apart = apart; own = own; talks = talks })
+
+-- Two entries are kept together: that a receipt is recorded, and that the next one is tried over the same link.
+second_on : Ids → (next : Then) (low : ℕ) (kept : List Entry) (hand : Option Hand) (h : HostView) (m mid after : MachineView) (e f : Entry) (before : List Carried) → Knows m kept hand h
+    → IsToKeep kept hand h e next → entry_with next ≡ Some f → Follows next m.host m.book.next mid.book mid.host mid.stage → KeepsEntry mid f after → OnLinks low (kept ++ e ∷ []) mid before
+    → OnLinks low (kept ++ e ∷ f ∷ []) after (link_for (kept ++ e ∷ []) f ++ before)
+second_on ids (then.GoOn number tried due) low kept hand h m mid after e f before knows keeps with (host, at) (next, is, second) on =
+    let more : List Entry = kept ++ e ∷ [] in
+    let same : tried ≡ f = (let both : Some tried ≡ Some f = with in cc) in
+    let sends : IsToSendNext more h due f = subst (IsToSendNext more h due) same keeps.1 in
+    let so = subst (λ s. Kept s mid after) at second in
+    let host_same : (mid.host.out ≡ h.out) × (mid.host.next ≡ h.next) = (ap (λ v. v.out) host ∙ knows.2.0, ap (λ v. v.next) host ∙ knows.2.1) in
+    let (apart, own, talks) = sent_next ids low before more number due h mid after f host_same sends so.1 on.apart on.own in
+    let link : link_for more f ≡ link_of (then.SendNext number due) f (next_free more) =
+    ap (link_for more) sends.tried_is ∙ sym (ap (λ x. link_of (then.SendNext number due) x (next_free more)) sends.tried_is) in
+    subst (λ es. OnLinks low es after (link_for more f ++ before)) (append_assoc kept (e ∷ []) (f ∷ []))
+    (subst (λ ls. OnLinks low (more ++ f ∷ []) after (ls ++ before)) (sym link) (record { apart = apart; own = own; talks = talks }))
+second_on ids then.Queued low kept hand h m mid after e f before knows keeps with follows second on = absurd (let bad : None ≡ Some f = with in cc)
+second_on ids (then.Take content) low kept hand h m mid after e f before knows keeps with follows second on = absurd (let bad : None ≡ Some f = with in cc)
+second_on ids then.Raised low kept hand h m mid after e f before knows keeps with follows second on = absurd (let bad : None ≡ Some f = with in cc)
+second_on ids (then.Cancelled number tried) low kept hand h m mid after e f before knows keeps with follows second on = absurd (let bad : None ≡ Some f = with in cc)
+second_on ids (then.Send due) low kept hand h m mid after e f before knows keeps with follows second on = absurd (let bad : None ≡ Some f = with in cc)
+second_on ids (then.Recorded number) low kept hand h m mid after e f before knows keeps with follows second on = absurd (let bad : None ≡ Some f = with in cc)
+second_on ids (then.SendNext number due) low kept hand h m mid after e f before knows keeps with follows second on = absurd (let bad : None ≡ Some f = with in cc)
+
+both_on : Ids → (low : ℕ) (kept : List Entry) (hand : Option Hand) (h : HostView) (m mid : MachineView) (e f : Entry) (before : List Carried) → Knows m kept hand h → Turns m (Keeps e (Some f)) mid
+    → OnLinks low kept m before → OnLinks low (kept ++ e ∷ f ∷ []) mid (link_for (kept ++ e ∷ []) f ++ (link_for kept e ++ before))
+both_on ids low kept hand h m mid e f before knows (between, next, is, with, keeps, sound, second) on =
+    let first = keeps_on ids low kept hand h m between e before knows (next, is, keeps) on in
+    let holds = subst (Holds kept hand h) is knows.1 in
+    let so = subst (λ s. Kept s m between) is keeps in
+    second_on ids next low kept hand h m between mid e f (link_for kept e ++ before) knows holds.1 with so.1 second first
 
 learns_on : (low : ℕ) (kept : List Entry) (m mid : MachineView) (others : List Entry) (before : List Carried) → FollowAll kept others → Turns m (Learns others) mid → OnLinks low kept m before
     → OnLinks low (kept ++ others) mid before
@@ -147,14 +183,24 @@ learns_on low kept m mid others before follow (e, next, is, learned) on = record
   talks = quiet_on mid.stage mid.host before (learned_quiet e next others m mid (subst (λ s. Learned s others m mid) is learned));
 }
 
-loses_on : (low : ℕ) (kept : List Entry) (hand : Option Hand) (h : HostView) (m mid : MachineView) (e : Entry) (why : StoreFault) (before : List Carried) → Knows m kept hand h → Turns m (Loses e why) mid
-    → OnLinks low kept m before → OnLinks low kept mid before × OnLinks low (kept ++ e ∷ []) mid before
-loses_on low kept hand h m mid e why before knows (next, is, unsure) on =
+-- What is lost may be kept, and with it what was to be kept together with it.
+with_follow : (kept : List Entry) (hand : Option Hand) (h : HostView) (e : Entry) (next : Then) (and_then : Option Entry) → MayFollow kept e → IsToKeep kept hand h e next → MayGoWith and_then next
+    → next_free kept ≤ next_free (kept ++ added e and_then)
+with_follow kept hand h e next None follows keeps goes = grows kept e follows
+with_follow kept hand h e next (Some f) follows keeps goes = both_grow kept e f follows (second_follows next kept hand h e f keeps goes)
+
+loses_on : (low : ℕ) (kept : List Entry) (hand : Option Hand) (h : HostView) (m mid : MachineView) (e : Entry) (and_then : Option Entry) (why : StoreFault) (before : List Carried) → Knows m kept hand h
+    → Turns m (Loses e and_then why) mid → OnLinks low kept m before → OnLinks low kept mid before × OnLinks low (kept ++ added e and_then) mid before
+loses_on low kept hand h m mid e and_then why before knows (next, is, goes, unsure) on =
     let holds = subst (Holds kept hand h) is knows.1 in
     let so = subst (λ s. Unsure s why m mid) is unsure in
     let talks : TalksOn mid.stage mid.host before = quiet_on mid.stage mid.host before (subst IsQuiet (sym so.2) (lost_quiet next why)) in (
       record { apart = on.apart; own = on.own; talks = talks },
-      record { apart = apart_more low (next_free kept) (next_free (kept ++ e ∷ [])) before (grows kept e holds.0) on.apart; own = on.own; talks = talks },
+      record {
+        apart = apart_more low (next_free kept) (next_free (kept ++ added e and_then)) before (with_follow kept hand h e next and_then holds.0 holds.1 goes) on.apart;
+        own = on.own;
+        talks = talks;
+      },
     )
 
 -- ## What is put
@@ -192,9 +238,9 @@ ends_alone did (HangsUp ∷ ds) m after old new kept others before links ending 
     ends_alone did ds mid after between new kept others before links (ends_on HangsUp m mid ending turns).1 more carries
 ends_alone did (Tells n ∷ ds) m after old new kept others before links ending (mid, between, turns, sound, first, more) carries =
     ends_alone did ds mid after between new kept others before links (ends_on (Tells n) m mid ending turns).1 more carries
-ends_alone did (Keeps e ∷ ds) m after old new kept others before links ending (mid, between, turns, sound, first, more) carries = absurd (ends_on (Keeps e) m mid ending turns).0
+ends_alone did (Keeps e and_then ∷ ds) m after old new kept others before links ending (mid, between, turns, sound, first, more) carries = absurd (ends_on (Keeps e and_then) m mid ending turns).0
 ends_alone did (Learns others' ∷ ds) m after old new kept others before links ending (mid, between, turns, sound, first, more) carries = absurd (ends_on (Learns others') m mid ending turns).0
-ends_alone did (Loses e why ∷ ds) m after old new kept others before links ending (mid, between, turns, sound, first, more) carries = absurd (ends_on (Loses e why) m mid ending turns).0
+ends_alone did (Loses e and_then why ∷ ds) m after old new kept others before links ending (mid, between, turns, sound, first, more) carries = absurd (ends_on (Loses e and_then why) m mid ending turns).0
 ends_alone did (Links ∷ ds) m after old new kept others before links ending (mid, between, turns, sound, first, more) carries = absurd (ends_on Links m mid ending turns).0
 ends_alone did (Misses ∷ ds) m after old new kept others before links ending (mid, between, turns, sound, first, more) carries = absurd (ends_on Misses m mid ending turns).0
 ends_alone did (Puts bytes ∷ ds) m after old new kept others before links ending (mid, between, turns, sound, first, more) carries = absurd (ends_on (Puts bytes) m mid ending turns).0
@@ -202,6 +248,7 @@ ends_alone did (Breaks bytes why ∷ ds) m after old new kept others before link
 ends_alone did (Gives room bytes ∷ ds) m after old new kept others before links ending (mid, between, turns, sound, first, more) carries = absurd (ends_on (Gives room bytes) m mid ending turns).0
 ends_alone did (Ends why ∷ ds) m after old new kept others before links ending (mid, between, turns, sound, first, more) carries = absurd (ends_on (Ends why) m mid ending turns).0
 ends_alone did (Pauses number why ∷ ds) m after old new kept others before links ending (mid, between, turns, sound, first, more) carries = absurd (ends_on (Pauses number why) m mid ending turns).0
+ends_alone did (Confirms number ∷ ds) m after old new kept others before links ending (mid, between, turns, sound, first, more) carries = absurd (ends_on (Confirms number) m mid ending turns).0
 
 -- ## One deed, and the others
 
@@ -215,16 +262,18 @@ at_entries low mid ds links between same is goes = subst (λ b. Goes low b.kept 
 
 step : Ids → (d : Deed) (ds : List Deed) (low : ℕ) (m mid after : MachineView) (a between new : Around) (hand : Option Hand) (h : HostView) (before links : List Carried) → Knows m a.kept hand h → Turns m d mid → Does a d between
     → DidAll DoesInTime mid between ds after new → OnLinks low a.kept m before → CarriesBy a.kept (d ∷ ds) before links → Goes low between.kept mid ds links
-step ids (Keeps e) ds low m mid after a between new hand h before links knows turns is more on carries =
+step ids (Keeps e None) ds low m mid after a between new hand h before links knows turns is more on carries =
     at_entries low mid ds links between _ is (link_for a.kept e ++ before, keeps_on ids low a.kept hand h m mid e before knows turns on, carries)
-step ids (Loses e why) ds low m mid after a between new hand h before links knows turns (inl is) more on carries =
-    at_entries low mid ds links between _ is (before, (loses_on low a.kept hand h m mid e why before knows turns on).0, carries)
-step ids (Loses e why) ds low m mid after a between new hand h before links knows turns (inr is) more on carries =
-    let ending = lags_ends mid.stage (unsure_lags m mid e why turns) in
+step ids (Keeps e (Some f)) ds low m mid after a between new hand h before links knows turns is more on carries =
+    at_entries low mid ds links between _ is (link_for (a.kept ++ e ∷ []) f ++ (link_for a.kept e ++ before), both_on ids low a.kept hand h m mid e f before knows turns on, carries)
+step ids (Loses e and_then why) ds low m mid after a between new hand h before links knows turns (inl is) more on carries =
+    at_entries low mid ds links between _ is (before, (loses_on low a.kept hand h m mid e and_then why before knows turns on).0, carries)
+step ids (Loses e and_then why) ds low m mid after a between new hand h before links knows turns (inr is) more on carries =
+    let ending = lags_ends mid.stage (unsure_lags m mid e and_then why turns) in
     at_entries low mid ds links between _ is (
       before,
-      (loses_on low a.kept hand h m mid e why before knows turns on).1,
-      ends_alone DoesInTime ds mid after between new a.kept (a.kept ++ e ∷ []) before links ending more carries,
+      (loses_on low a.kept hand h m mid e and_then why before knows turns on).1,
+      ends_alone DoesInTime ds mid after between new a.kept (a.kept ++ added e and_then) before links ending more carries,
     )
 step ids (Learns others) ds low m mid after a between new hand h before links knows turns (added, is) more on carries =
     at_entries low mid ds links between _ is (before, learns_on low a.kept m mid others before added.follow turns on, carries)
@@ -246,15 +295,19 @@ step ids (Ends why) ds low m mid after a between new hand h before links knows (
 step ids HangsUp ds low m mid after a between new hand h before links knows (n, at, mid_is) is more on carries =
     at_entries low mid ds links between _ is (passes low a.kept m mid ds before links on (same_or_quiet m mid before (hung_so m.stage m mid mid_is) on.talks) carries)
 step ids (Pauses number why) ds low m mid after a between new hand h before links knows (talk, at, news, mid_is) is more on carries =
-    at_entries low mid ds links between _ is (passes low a.kept m mid ds before links on (paused_on m mid before talk at mid_is on.talks) carries)
+    at_entries low mid ds links between _ is (passes low a.kept m mid ds before links on (news_on m mid before talk at mid_is on.talks) carries)
+step ids (Confirms number) ds low m mid after a between new hand h before links knows (talk, at, news, mid_is) is more on carries =
+    at_entries low mid ds links between _ is (passes low a.kept m mid ds before links on (news_on m mid before talk at mid_is on.talks) carries)
 step ids (Tells n) ds low m mid after a between new hand h before links knows (at, mid_is) is more on carries =
     at_entries low mid ds links between _ is (passes low a.kept m mid ds before links on (told_on n m mid before at mid_is) carries)
 
-knows_of : EveryWorld → (w : World) (m : MachineView) (a : Around) → HasCome w → Shows m a w → (hand : Option Hand) × (h : HostView) × Knows m a.kept hand h
+pub knows_of : EveryWorld → (w : World) (m : MachineView) (a : Around) → HasCome w → Shows m a w → (hand : Option Hand) × (h : HostView) × Knows m a.kept hand h
 knows_of every w m a come shows =
     let known : IsWorld w = every come.first w come.happenings come.begins come.runs in
     let h : HostView = with_earlier known.earlier known.host in
-    (known.hand, h, subst (λ k. Knows m k known.hand h) shows.kept (subst (λ o. IsMachineIn o w.kept known.hand h) shows.machine known.machine))
+    let host : known.host ≡ m.host = subst (λ o. IsHostOf o known.host) shows.machine known.host_is in
+    let machine = subst (λ o. IsMachineIn o w.kept known.hand h) shows.machine known.machine in
+    (known.hand, h, subst (λ k. Knows m k known.hand h) shows.kept (machine.0, machine.1, (ap (λ v. v.out) (sym host), ap (λ v. v.next) (sym host))))
 
 deeds_carried : Ids → EveryWorld → (ds : List Deed) (low : ℕ) (m after : MachineView) (a new : Around) (w : World) (before links : List Carried) → HasCome w → Shows m a w → DidAll DoesInTime m a ds after new
     → OnLinks low a.kept m before → CarriesBy a.kept ds before links → OnLinks low new.kept after links
@@ -289,16 +342,19 @@ on_some low kept m talk before at on = is_on_some before m.host talk.receipt (su
 
 has_step : Ids → (d : Deed) (ds : List Deed) (low : ℕ) (m mid after : MachineView) (a between new : Around) (hand : Option Hand) (h : HostView) (before : List Carried) → Knows m a.kept hand h → Turns m d mid
     → Does a d between → DidAll DoesInTime mid between ds after new → OnLinks low a.kept m before → HasLinks low a.kept between.kept mid d ds before
-has_step ids (Keeps e) ds low m mid after a between new hand h before knows turns is more on =
-    has_at low a.kept mid (Keeps e) ds before between _ is (link_for a.kept e ++ before, keeps_on ids low a.kept hand h m mid e before knows turns on, λ links carries. carries)
-has_step ids (Loses e why) ds low m mid after a between new hand h before knows turns (inl is) more on =
-    has_at low a.kept mid (Loses e why) ds before between _ is (before, (loses_on low a.kept hand h m mid e why before knows turns on).0, λ links carries. carries)
-has_step ids (Loses e why) ds low m mid after a between new hand h before knows turns (inr is) more on =
-    let ending = lags_ends mid.stage (unsure_lags m mid e why turns) in
-    has_at low a.kept mid (Loses e why) ds before between _ is (
+has_step ids (Keeps e None) ds low m mid after a between new hand h before knows turns is more on =
+    has_at low a.kept mid (Keeps e None) ds before between _ is (link_for a.kept e ++ before, keeps_on ids low a.kept hand h m mid e before knows turns on, λ links carries. carries)
+has_step ids (Keeps e (Some f)) ds low m mid after a between new hand h before knows turns is more on =
+    has_at low a.kept mid (Keeps e (Some f)) ds before between _ is
+    (link_for (a.kept ++ e ∷ []) f ++ (link_for a.kept e ++ before), both_on ids low a.kept hand h m mid e f before knows turns on, λ links carries. carries)
+has_step ids (Loses e and_then why) ds low m mid after a between new hand h before knows turns (inl is) more on =
+    has_at low a.kept mid (Loses e and_then why) ds before between _ is (before, (loses_on low a.kept hand h m mid e and_then why before knows turns on).0, λ links carries. carries)
+has_step ids (Loses e and_then why) ds low m mid after a between new hand h before knows turns (inr is) more on =
+    let ending = lags_ends mid.stage (unsure_lags m mid e and_then why turns) in
+    has_at low a.kept mid (Loses e and_then why) ds before between _ is (
       before,
-      (loses_on low a.kept hand h m mid e why before knows turns on).1,
-      λ links carries. ends_alone DoesInTime ds mid after between new (a.kept ++ e ∷ []) a.kept before links ending more carries,
+      (loses_on low a.kept hand h m mid e and_then why before knows turns on).1,
+      λ links carries. ends_alone DoesInTime ds mid after between new (a.kept ++ added e and_then) a.kept before links ending more carries,
     )
 has_step ids (Learns others) ds low m mid after a between new hand h before knows turns (added, is) more on =
     has_at low a.kept mid (Learns others) ds before between _ is (before, learns_on low a.kept m mid others before added.follow turns on, λ links carries. carries)
@@ -325,7 +381,9 @@ has_step ids (Ends why) ds low m mid after a between new hand h before knows (ro
 has_step ids HangsUp ds low m mid after a between new hand h before knows (n, at, mid_is) is more on =
     has_at low a.kept mid HangsUp ds before between _ is (before, same_links low a.kept m mid before on (same_or_quiet m mid before (hung_so m.stage m mid mid_is) on.talks), λ links carries. carries)
 has_step ids (Pauses number why) ds low m mid after a between new hand h before knows (talk, at, news, mid_is) is more on =
-    has_at low a.kept mid (Pauses number why) ds before between _ is (before, same_links low a.kept m mid before on (paused_on m mid before talk at mid_is on.talks), λ links carries. carries)
+    has_at low a.kept mid (Pauses number why) ds before between _ is (before, same_links low a.kept m mid before on (news_on m mid before talk at mid_is on.talks), λ links carries. carries)
+has_step ids (Confirms number) ds low m mid after a between new hand h before knows (talk, at, news, mid_is) is more on =
+    has_at low a.kept mid (Confirms number) ds before between _ is (before, same_links low a.kept m mid before on (news_on m mid before talk at mid_is on.talks), λ links carries. carries)
 has_step ids (Tells n) ds low m mid after a between new hand h before knows (at, mid_is) is more on =
     has_at low a.kept mid (Tells n) ds before between _ is (before, same_links low a.kept m mid before on (told_on n m mid before at mid_is), λ links carries. carries)
 

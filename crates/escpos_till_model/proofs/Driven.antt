@@ -1,11 +1,11 @@
 -- Why a driver's run is a run of the world: one deed after another, to where the machine stands, or where the till is switched off.
-use Rattle.std.proofs.Common.{◌≡◌, ◌≢◌, inl, inr, Some, List, [], ◌∷◌, ◌++◌, refl, sym, ◌∙◌, ap, subst}
+use Rattle.std.proofs.Common.{◌≡◌, ◌≢◌, inl, inr, Option, Some, None, List, [], ◌∷◌, ◌++◌, refl, sym, ◌∙◌, ap, subst}
 use Rattle.escpos_host.specs.Machine.{HostView, Down, IsSound}
 use Rattle.escpos_link.specs.Wire.{WireView, given_up, with_link}
 use Rattle.escpos_till.specs.declared.machine.Stage.{Stage}
 use Rattle.escpos_till.specs.declared.machine.Stage.TheVariants as stage
 use Rattle.escpos_till.specs.declared.machine.Then.TheVariants as then
-use Rattle.escpos_till.specs.Driver.{Breaks, Deed, DidAll, Ends, Gives, HangsUp, Keeps, Learns, Links, Loses, Misses, Pauses, Puts, Ran, Tells, Turns}
+use Rattle.escpos_till.specs.Driver.{Breaks, Confirms, Deed, DidAll, Ends, Gives, HangsUp, Keeps, Learns, Links, Loses, Misses, Pauses, Puts, Ran, Tells, Turns}
 use Rattle.escpos_till.specs.Machine.{MachineView}
 use Rattle.escpos_till_model.specs.Around.{Around, CrashesTo, Does, DoesInTime, HasNoLink, IsAround, Reaches, around}
 use Rattle.escpos_till_model.specs.declared.event.Happening.{Happening}
@@ -13,7 +13,7 @@ use Rattle.escpos_till_model.specs.declared.event.Happening.TheVariants.{Crash, 
 use Rattle.escpos_till_model.specs.World.{Runs, World, with_wire, Crashes, off}
 use Rattle.escpos_till_model.proofs.WireEvents.{goes_on_given_up}
 use Rattle.escpos_till_model.proofs.Shown.{DownIn, Leads, Shows, ShowsWire, events_of, later, leads_on, one, runs_events, runs_more}
-use Rattle.escpos_till_model.proofs.DrivenDeeds.{breaks, ends, gives, hangs_up, keeps, learns, links, loses_with, loses_without, misses, misses_late, pauses, puts, tells}
+use Rattle.escpos_till_model.proofs.DrivenDeeds.{breaks, confirms, ends, gives, hangs_up, keeps, keeps_both, learns, links, loses_with, loses_with_both, loses_without, misses, misses_late, pauses, puts, tells}
 
 -- ## A whole run
 
@@ -21,9 +21,11 @@ to_new : (w : World) (m : MachineView) (a new : Around) → new ≡ a → Leads 
 to_new w m a new is leads = subst (λ k. Leads w m k) (sym is) leads
 
 pub does : (d : Deed) (m mid : MachineView) (a new : Around) (w : World) → Shows m a w → Turns m d mid → IsSound mid.host → Does a d new → Leads w mid new
-does (Keeps e) m mid a new w shows turns sound is = to_new w mid _ new is (keeps m mid a w e shows turns sound)
-does (Loses e why) m mid a new w shows turns sound (inl is) = to_new w mid _ new is (loses_without m mid a w e why shows turns sound)
-does (Loses e why) m mid a new w shows turns sound (inr is) = to_new w mid _ new is (loses_with m mid a w e why shows turns sound)
+does (Keeps e None) m mid a new w shows turns sound is = to_new w mid _ new is (keeps m mid a w e shows turns sound)
+does (Keeps e (Some f)) m mid a new w shows turns sound is = to_new w mid _ new is (keeps_both m mid a w e f shows turns sound)
+does (Loses e and_then why) m mid a new w shows turns sound (inl is) = to_new w mid _ new is (loses_without m mid a w e and_then why shows turns sound)
+does (Loses e None why) m mid a new w shows turns sound (inr is) = to_new w mid _ new is (loses_with m mid a w e why shows turns sound)
+does (Loses e (Some f) why) m mid a new w shows turns sound (inr is) = to_new w mid _ new is (loses_with_both m mid a w e f why shows turns sound)
 does (Learns others) m mid a new w shows turns sound (added, is) = to_new w mid _ new is (learns m mid a w others shows turns sound added)
 does Links m mid a new w shows turns sound is = to_new w mid _ new is (links m mid a w shows turns sound)
 does Misses m mid a new w shows turns sound (inl is) = to_new w mid _ new is (misses m mid a w shows turns sound)
@@ -34,9 +36,10 @@ does (Gives room bytes) m mid a new w shows turns sound (bytes_are, is) = to_new
 does (Ends why) m mid a new w shows turns sound is = to_new w mid _ new is (ends m mid a w why shows turns sound)
 does HangsUp m mid a new w shows turns sound is = to_new w mid _ new is (hangs_up m mid a w shows turns sound)
 does (Pauses number why) m mid a new w shows turns sound is = to_new w mid _ new is (pauses m mid a w number why shows turns sound)
+does (Confirms number) m mid a new w shows turns sound is = to_new w mid _ new is (confirms m mid a w number shows turns sound)
 does (Tells note) m mid a new w shows turns sound is = to_new w mid _ new is (tells m mid a w note shows turns sound)
 
-does_all : (ds : List Deed) (m after : MachineView) (a new : Around) (w : World) → Shows m a w → DidAll DoesInTime m a ds after new → Leads w after new
+pub does_all : (ds : List Deed) (m after : MachineView) (a new : Around) (w : World) → Shows m a w → DidAll DoesInTime m a ds after new → Leads w after new
 does_all [] m after a new w shows (is, same) =
     subst (λ k. Leads w k new) (sym is) (to_new w m a new same (record { happenings = []; now = w; runs = refl; shows = shows }))
 does_all (d ∷ ds) m after a new w shows (mid, between, turns, sound, did, more) =
@@ -85,6 +88,8 @@ reach (stage.Keeping e (then.Send due)) w m a leads is (down, (events, goes)) = 
   rests = λ none. absurd (subst HasNoLink is none);
 }
 reach (stage.Keeping e (then.Recorded number)) w m a leads is (up, (dropped, same)) = reach_on w m a leads _ is (ap (λ v. v.printer) same) (λ none. absurd none)
+reach (stage.Keeping e (then.GoOn number tried due)) w m a leads is (up, same) = reach_on w m a leads _ is (ap (λ v. v.printer) same) (λ none. absurd none)
+reach (stage.Keeping e (then.SendNext number due)) w m a leads is (up, same) = reach_on w m a leads _ is (ap (λ v. v.printer) same) (λ none. absurd none)
 reach (stage.HangingUp note) w m a leads is (down, same) = reach_on w m a leads _ is (ap (λ v. v.printer) same) (λ none. absurd none)
 reach (stage.Talking talk) w m a leads is (up, same) = reach_on w m a leads _ is (ap (λ v. v.printer) same) (λ none. absurd none)
 reach stage.AtRest w m a leads is shown = reach_at_rest w m a leads stage.AtRest is tt shown
@@ -147,6 +152,12 @@ crash (stage.Keeping e (then.Send due)) w m a leads is (down, (events, goes)) =
 crash (stage.Keeping e (then.Recorded number)) w m a leads is (up, (dropped, same)) =
     crash_with w m a leads.happenings leads.now (given_up leads.now.wire) (stage.Keeping e (then.Recorded number)) is leads.runs (crash_up leads.now m leads.shows.machine up) leads.shows.kept leads.shows.told
     (λ none. absurd none) (λ not. ap given_up same)
+crash (stage.Keeping e (then.GoOn number tried due)) w m a leads is (up, same) =
+    crash_with w m a leads.happenings leads.now (given_up leads.now.wire) (stage.Keeping e (then.GoOn number tried due)) is leads.runs (crash_up leads.now m leads.shows.machine up) leads.shows.kept leads.shows.told
+    (λ none. absurd none) (λ not. ap given_up same)
+crash (stage.Keeping e (then.SendNext number due)) w m a leads is (up, same) =
+    crash_with w m a leads.happenings leads.now (given_up leads.now.wire) (stage.Keeping e (then.SendNext number due)) is leads.runs (crash_up leads.now m leads.shows.machine up) leads.shows.kept leads.shows.told
+    (λ none. absurd none) (λ not. ap given_up same)
 crash (stage.Talking talk) w m a leads is (up, same) =
     crash_with w m a leads.happenings leads.now (given_up leads.now.wire) (stage.Talking talk) is leads.runs (crash_up leads.now m leads.shows.machine up) leads.shows.kept leads.shows.told (λ none. absurd none)
     (λ not. ap given_up same)
@@ -171,6 +182,8 @@ starts (stage.Keeping e then.Raised) h w near none down same = (down, same)
 starts (stage.Keeping e (then.Cancelled number tried)) h w near none down same = (down, same)
 starts (stage.Keeping e (then.Send due)) h w near none down same = absurd none
 starts (stage.Keeping e (then.Recorded number)) h w near none down same = absurd none
+starts (stage.Keeping e (then.GoOn number tried due)) h w near none down same = absurd none
+starts (stage.Keeping e (then.SendNext number due)) h w near none down same = absurd none
 starts (stage.Talking talk) h w near none down same = absurd none
 starts (stage.HangingUp note) h w near none down same = absurd none
 starts (stage.Telling note) h w near none down same = (down, same)

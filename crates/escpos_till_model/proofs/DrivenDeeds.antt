@@ -1,5 +1,5 @@
 -- Why each deed of a driver, and what it does to what surrounds the machine, is some happenings in the world.
-use Rattle.std.proofs.Common.{ℕ, zero, suc, ◌≡◌, ◌≢◌, inl, inr, ◌+◌, ◌-◌, ◌<◌, ◌≤◌, Option, Some, None, List, [], ◌∷◌, ◌++◌, length, take, drop, refl, sym, ◌∙◌, ap, subst, arith, length-drop}
+use Rattle.std.proofs.Common.{ℕ, zero, suc, ◌≡◌, ◌≢◌, inl, inr, ◌+◌, ◌-◌, ◌<◌, ◌≤◌, Option, Some, None, List, [], ◌∷◌, ◌++◌, length, take, drop, refl, sym, ◌∙◌, ap, subst, append_assoc, arith, length-drop}
 use Rattle.std.specs.Prelude.{max, slice_index}
 use Rattle.std.proofs.Math.Seq.{take-add}
 use Rattle.std.proofs.lemmas.List.{drop-append-le, drop-drop, drop-take, length-take-le, take-append-le, take-append-drop, take_all}
@@ -10,7 +10,7 @@ use Rattle.escpos_host.specs.declared.host.HostEvent.{HostEvent}
 use Rattle.escpos_host.specs.declared.host.HostEvent.TheVariants as heard
 use Rattle.escpos_host.specs.declared.send.SendFault.{SendFault}
 use Rattle.escpos_host.specs.Awaits.{RefusesOpening}
-use Rattle.escpos_host.proofs.Recording.{keeps as kept_by}
+use Rattle.escpos_host.proofs.Recording.{keeps as kept_by, told as told_by}
 use Rattle.escpos_host.specs.Heard.{HearsByte, IsHeard, taken_at, with_half}
 use Rattle.escpos_host.specs.Machine.{HostView, Down, IsSound}
 use Rattle.escpos_link.specs.declared.event.Event.{Event}
@@ -18,6 +18,7 @@ use Rattle.escpos_link.specs.Wire.{WireView, given_up, heard_from, with_bytes, w
 use Rattle.escpos_till.specs.declared.book.Book.{Book}
 use Rattle.escpos_till.specs.declared.entry.Entry.{Entry}
 use Rattle.escpos_till.specs.declared.entry.Entry.TheVariants as entry
+use Rattle.escpos_till.specs.declared.machine.Due.{Due}
 use Rattle.escpos_till.specs.declared.machine.Stage.{Stage}
 use Rattle.escpos_till.specs.declared.machine.Stage.TheVariants as stage
 use Rattle.escpos_till.specs.declared.machine.Talk.{Talk}
@@ -28,15 +29,15 @@ use Rattle.escpos_till.specs.declared.machine.TillNote.TheVariants as note_kind
 use Rattle.escpos_till.specs.declared.store.StoreFault.{StoreFault}
 use Rattle.std.proofs.Math.Nat.{min-eq_left}
 use Rattle.escpos_till.specs.Delivers.{fresh}
-use Rattle.escpos_till.specs.Driver.{Breaks, Ends, Gives, HangsUp, HearsAll, Keeps, Learns, Links, Loses, Misses, Pauses, Puts, Tells, Turns}
+use Rattle.escpos_till.specs.Driver.{Breaks, Confirms, Ends, Gives, HangsUp, HearsAll, Keeps, KeepsEntry, Learns, Links, Loses, Misses, Pauses, Puts, Tells, Turns}
 use Rattle.escpos_till.specs.Learning.{AreOthers, FailsToLearn, Learned, LearnsAll, Revises}
-use Rattle.escpos_till.specs.Machine.{Came, Drops, Ended, Follows, GoesOn, Kept, MachineView, Submits, Turns as Turned, Unsure, after_note, connected, hung_up, lost, not_connected, put, told, with_pause}
+use Rattle.escpos_till.specs.Machine.{Came, Drops, Ended, Follows, GoesOn, IsGoingOn, Kept, MachineView, Submits, Turns as Turned, Unsure, after_note, connected, hung_up, lost, news_in, news_of, next_talk, not_connected, printed, put, told, with_pause}
 use Rattle.escpos_till_model.specs.Around.{Around, GoesOnBy, around}
 use Rattle.escpos_till_model.specs.declared.event.Happening.{Happening}
 use Rattle.escpos_till.specs.declared.pause.Pause.{Pause}
 use Rattle.escpos_till_model.specs.declared.event.Happening.TheVariants as event
-use Rattle.escpos_till_model.specs.declared.event.Happening.TheVariants.{Break, Connect, End, FailLearning, FailWith, FailWithout, HangUp, Hear, Idle, Keep, Learn, Miss, Put, Tell}
-use Rattle.escpos_till_model.specs.World.{Happens, Learns as LearnsIn, Stores, TellsPause, Wired, World, running, with_entry, without_entry}
+use Rattle.escpos_till_model.specs.declared.event.Happening.TheVariants.{Break, Connect, End, FailLearning, FailWith, FailWithBoth, FailWithout, HangUp, Hear, Idle, Keep, Learn, Miss, Put, Tell}
+use Rattle.escpos_till_model.specs.World.{Happens, Learns as LearnsIn, Stores, TellsNews, Wired, World, running, with_entry, without_entry}
 use Rattle.escpos_till_model.proofs.WireEvents.{with_more}
 use Rattle.escpos_till_model.proofs.Shown.{DownIn, Leads, Shows, ShowsWire, arrive, events_of, gone, idle_shown, leads_on, move, one, runs_events, shows_at, wired_down, wired_off, wired_on, wired_up}
 
@@ -102,6 +103,17 @@ refused_down error.Memory first openings h (down, may, inr (used, some, few, wit
 refused_down error.NotReady first openings h refused = absurd refused
 refused_down error.InFlightFull first openings h refused = absurd refused
 
+-- No bytes are dropped.
+lags_none : (w near : WireView) → w ≡ near → w ≡ with_more [] near
+lags_none w near same = same
+
+-- The host stays on its link.
+answered_on : (m mid : MachineView) (w : World) (a : Around) (it : Answers m mid w a) (s : Stage) → w.told ≡ a.told → m.host.phase ≢ Down → mid.host ≡ m.host → w.wire ≡ a.wire → mid.stage ≡ s
+    → ((mid.host.phase ≢ Down) × (w.wire ≡ a.wire) → ShowsWire s mid.host w.wire a.wire) → Leads w mid a
+answered_on m mid w a it s told up host same is shown =
+    let up' : mid.host.phase ≢ Down = λ down. up (ap (λ h. h.phase) (sym host) ∙ down) in
+    answered m mid w a it s w.wire told is (wired_on m.host mid.host w.wire up up') (shown (up', same))
+
 kept_so : (next : Then) (m mid : MachineView) (w : World) (a : Around) (e : Entry) (it : Answers m mid w a) → w.told ≡ a.told → ShowsWire (stage.Keeping e next) m.host w.wire a.wire
     → Follows next m.host m.book.next mid.book mid.host mid.stage → Leads w mid a
 kept_so then.Queued m mid w a e it notes (down, same) (number, is, host, at) = answered_down m mid w a it _ notes down host same at
@@ -115,6 +127,12 @@ kept_so (then.Send due) m mid w a e it notes (down, (events, goes)) (inl (host, 
 kept_so (then.Send due) m mid w a e it notes (down, (events, goes)) (inr (why, refused, at)) =
     answered_unsent m mid w a it _ events notes down (refused_down why m.book.next (max due.openings 1) mid.host refused) goes at
 kept_so (then.Recorded number) m mid w a e it notes (up, (dropped, same)) (drops, at) = answered_off m mid w a it _ dropped notes up (gone m.host mid.host drops) same at
+kept_so (then.GoOn number tried due) m mid w a e it notes (up, same) (host, at) = answered_on m mid w a it (stage.Keeping tried (then.SendNext number due)) notes up host same at (λ on. on)
+kept_so (then.SendNext number due) m mid w a e it notes (up, same) (inl ((phase, mark, sent), at)) =
+    let up' : mid.host.phase ≢ Down = subst (λ h. h.phase ≢ Down) (sym sent) (λ bad. cc bad) in
+    answered m mid w a it (stage.Talking (next_talk number due)) w.wire notes at (wired_on m.host mid.host w.wire up up') (up', same)
+kept_so (then.SendNext number due) m mid w a e it notes (up, same) (inr (why, refused, drops, at)) =
+    answered_off m mid w a it _ [] notes up (gone m.host mid.host drops) (lags_none w.wire a.wire same) at
 
 lost_so : (next : Then) (why : StoreFault) (m mid : MachineView) (w : World) (a : Around) (e : Entry) (it : Answers m mid w a) → w.told ≡ a.told
     → ShowsWire (stage.Keeping e next) m.host w.wire a.wire → Drops m.host mid.host → mid.stage ≡ lost next why → Leads w mid a
@@ -124,11 +142,13 @@ lost_so then.Raised why m mid w a e it notes (down, same) drops at = answered_do
 lost_so (then.Cancelled number tried) why m mid w a e it notes (down, same) drops at = answered_down m mid w a it _ notes down (drops.0 down) same at
 lost_so (then.Send due) why m mid w a e it notes (down, (events, goes)) drops at = answered_unsent m mid w a it _ events notes down (gone m.host mid.host drops) goes at
 lost_so (then.Recorded number) why m mid w a e it notes (up, (dropped, same)) drops at = answered_off m mid w a it _ dropped notes up (gone m.host mid.host drops) same at
+lost_so (then.GoOn number tried due) why m mid w a e it notes (up, same) drops at = answered_off m mid w a it _ [] notes up (gone m.host mid.host drops) (lags_none w.wire a.wire same) at
+lost_so (then.SendNext number due) why m mid w a e it notes (up, same) drops at = answered_off m mid w a it _ [] notes up (gone m.host mid.host drops) (lags_none w.wire a.wire same) at
 
 wire_at : (s : Stage) (m : MachineView) (a : Around) (w : World) → m.stage ≡ s → Shows m a w → ShowsWire s m.host w.wire a.wire
 wire_at s m a w is shows = subst (λ k. ShowsWire k m.host w.wire a.wire) is shows.wire
 
-pub keeps : (m mid : MachineView) (a : Around) (w : World) (e : Entry) → Shows m a w → Turns m (Keeps e) mid → IsSound mid.host → Leads w mid (around (a.kept ++ e ∷ []) a.wire a.told)
+pub keeps : (m mid : MachineView) (a : Around) (w : World) (e : Entry) → Shows m a w → KeepsEntry m e mid → IsSound mid.host → Leads w mid (around (a.kept ++ e ∷ []) a.wire a.told)
 keeps m mid a w e shows (next, is, kept) sound =
     let it : Answers m mid w (around (a.kept ++ e ∷ []) a.wire a.told) = record {
       e = Keep;
@@ -138,9 +158,9 @@ keeps m mid a w e shows (next, is, kept) sound =
     } in
     kept_so next m mid w (around (a.kept ++ e ∷ []) a.wire a.told) e it shows.told (wire_at (stage.Keeping e next) m a w is shows) (subst (λ s. Kept s m mid) is kept).1
 
-pub loses_with : (m mid : MachineView) (a : Around) (w : World) (e : Entry) (why : StoreFault) → Shows m a w → Turns m (Loses e why) mid → IsSound mid.host
+pub loses_with : (m mid : MachineView) (a : Around) (w : World) (e : Entry) (why : StoreFault) → Shows m a w → Turns m (Loses e None why) mid → IsSound mid.host
     → Leads w mid (around (a.kept ++ e ∷ []) a.wire a.told)
-loses_with m mid a w e why shows (next, is, unsure) sound =
+loses_with m mid a w e why shows (next, is, goes, unsure) sound =
     let it : Answers m mid w (around (a.kept ++ e ∷ []) a.wire a.told) = record {
       e = FailWith why;
       kept = w.kept ++ e ∷ [];
@@ -150,8 +170,37 @@ loses_with m mid a w e why shows (next, is, unsure) sound =
     let so = subst (λ s. Unsure s why m mid) is unsure in
     lost_so next why m mid w (around (a.kept ++ e ∷ []) a.wire a.told) e it shows.told (wire_at (stage.Keeping e next) m a w is shows) so.0 so.2
 
-pub loses_without : (m mid : MachineView) (a : Around) (w : World) (e : Entry) (why : StoreFault) → Shows m a w → Turns m (Loses e why) mid → IsSound mid.host → Leads w mid a
-loses_without m mid a w e why shows (next, is, unsure) sound =
+-- It has both.
+pub loses_with_both : (m mid : MachineView) (a : Around) (w : World) (e f : Entry) (why : StoreFault) → Shows m a w → Turns m (Loses e (Some f) why) mid → IsSound mid.host
+    → Leads w mid (around (a.kept ++ e ∷ f ∷ []) a.wire a.told)
+loses_with_both m mid a w e f why shows (next, is, goes, unsure) sound =
+    let kept : List Entry = w.kept ++ e ∷ f ∷ [] in
+    let it : Answers m mid w (around (a.kept ++ e ∷ f ∷ []) a.wire a.told) = record {
+      e = FailWithBoth why;
+      kept = kept;
+      same = ap (λ k. k ++ e ∷ f ∷ []) shows.kept;
+      happens = λ wire wired. record {
+        entry = e;
+        next = next;
+        second = f;
+        with = goes;
+        moves = move (λ k after. (k.stage ≡ stage.Keeping e next) × Unsure k.stage why k after) w m mid kept w.told wire shows.machine (is, unsure) sound wired;
+      };
+    } in
+    let so = subst (λ s. Unsure s why m mid) is unsure in
+    lost_so next why m mid w (around (a.kept ++ e ∷ f ∷ []) a.wire a.told) e it shows.told (wire_at (stage.Keeping e next) m a w is shows) so.0 so.2
+
+-- The store keeps both, one after the other.
+pub keeps_both : (m mid : MachineView) (a : Around) (w : World) (e f : Entry) → Shows m a w → Turns m (Keeps e (Some f)) mid → IsSound mid.host
+    → Leads w mid (around (a.kept ++ e ∷ f ∷ []) a.wire a.told)
+keeps_both m mid a w e f shows (between, next, is, with, kept, between_sound, last) sound =
+    let first = keeps m between a w e shows (next, is, kept) between_sound in
+    let second = keeps between mid (around (a.kept ++ e ∷ []) a.wire a.told) first.now f first.shows last sound in
+    leads_on w first.now mid (around (a.kept ++ e ∷ f ∷ []) a.wire a.told) first.happenings first.runs
+    (subst (λ k. Leads first.now mid (around k a.wire a.told)) (append_assoc a.kept (e ∷ []) (f ∷ [])) second)
+
+pub loses_without : (m mid : MachineView) (a : Around) (w : World) (e : Entry) (and_then : Option Entry) (why : StoreFault) → Shows m a w → Turns m (Loses e and_then why) mid → IsSound mid.host → Leads w mid a
+loses_without m mid a w e and_then why shows (next, is, goes, unsure) sound =
     let it : Answers m mid w a = record {
       e = FailWithout why;
       kept = w.kept;
@@ -177,7 +226,7 @@ revised_so : (next : Then) (m mid : MachineView) (w : World) (a : Around) (e : E
 revised_so (then.Send due) m mid w a e it notes (down, (events, goes)) (inl (waits, marks, host, at)) =
     let down' : mid.host.phase ≡ Down = ap (λ h. h.phase) host ∙ down in
     answered m mid w a it _ w.wire notes at (wired_down m.host mid.host w.wire down down') (down', (events, goes))
-revised_so (then.Send due) m mid w a e it notes (down, (events, goes)) (inr (inl (few, drops, at))) = answered_unsent m mid w a it _ events notes down (gone m.host mid.host drops) goes at
+revised_so (then.Send due) m mid w a e it notes (down, (events, goes)) (inr (inl (waits, few, drops, at))) = answered_unsent m mid w a it _ events notes down (gone m.host mid.host drops) goes at
 revised_so (then.Send due) m mid w a e it notes (down, (events, goes)) (inr (inr (tried, cancelled, drops, at))) =
     answered_unsent m mid w a it _ events notes down (gone m.host mid.host drops) goes at
 revised_so (then.Recorded number) m mid w a e it notes (up, (dropped, same)) (inl (waits, host, at)) =
@@ -185,6 +234,12 @@ revised_so (then.Recorded number) m mid w a e it notes (up, (dropped, same)) (in
     answered m mid w a it _ w.wire notes at (wired_on m.host mid.host w.wire up up') (up', (dropped, same))
 revised_so (then.Recorded number) m mid w a e it notes (up, (dropped, same)) (inr (tried, cancelled, drops, at)) =
     answered_off m mid w a it _ dropped notes up (gone m.host mid.host drops) same at
+revised_so (then.GoOn number tried due) m mid w a e it notes (up, same) (inl (waits, host, inl at)) =
+    answered_on m mid w a it (printed number) notes up host same at (λ on. (on.0, ([], lags_none w.wire a.wire on.1)))
+revised_so (then.GoOn number tried due) m mid w a e it notes (up, same) (inl (waits, host, inr goes)) = answered_on m mid w a it _ notes up host same goes.stage_is (λ on. on)
+revised_so (then.GoOn number tried due) m mid w a e it notes (up, same) (inr (times, cancelled, drops, at)) =
+    answered_off m mid w a it _ [] notes up (gone m.host mid.host drops) (lags_none w.wire a.wire same) at
+revised_so (then.SendNext number due) m mid w a e it notes (up, same) (drops, at) = answered_off m mid w a it _ [] notes up (gone m.host mid.host drops) (lags_none w.wire a.wire same) at
 revised_so then.Queued m mid w a e it notes shown none = absurd none
 revised_so (then.Take content) m mid w a e it notes shown none = absurd none
 revised_so then.Raised m mid w a e it notes shown none = absurd none
@@ -300,8 +355,21 @@ pauses m mid a w number why shows (talk, is, news, mid_is) sound =
     let (up, same) = wire_at (stage.Talking talk) m a w is shows in
     let host : mid.host ≡ m.host = ap (λ v. v.host) so in
     let up' : mid.host.phase ≢ Down = λ down. up (ap (λ h. h.phase) (sym host) ∙ down) in
-    arrive w (running mid w.kept w.wire w.told) event.Pause mid a
-    (move TellsPause w m mid w.kept w.told w.wire shows.machine (record { talk = talk; note = note_kind.Paused number why; talks = is; news = news; told = mid_is }) sound
+    arrive w (running mid w.kept w.wire w.told) event.News mid a
+    (move TellsNews w m mid w.kept w.told w.wire shows.machine (record { talk = talk; note = note_kind.Paused number why; talks = is; news = news; told = mid_is }) sound
+    (wired_on m.host mid.host w.wire up up'))
+    (shows_at _ mid a (running mid w.kept w.wire w.told) refl shows.kept shows.told (ap (λ v. v.stage) so) (up', same))
+
+-- The same of a receipt that is recorded.
+pub confirms : (m mid : MachineView) (a : Around) (w : World) (number : ℕ) → Shows m a w → Turns m (Confirms number) mid → IsSound mid.host → Leads w mid a
+confirms m mid a w number shows (talk, is, recorded, mid_is) sound =
+    let so : mid ≡ told (stage.Talking talk) m = mid_is ∙ ap (λ s. told s m) is in
+    let (up, same) = wire_at (stage.Talking talk) m a w is shows in
+    let host : mid.host ≡ m.host = ap (λ v. v.host) so in
+    let up' : mid.host.phase ≢ Down = λ down. up (ap (λ h. h.phase) (sym host) ∙ down) in
+    let news : news_of talk ≡ Some (note_kind.Recorded number) = ap (λ r. news_in r talk.number talk.paused.why talk.paused.is_news) recorded in
+    arrive w (running mid w.kept w.wire w.told) event.News mid a
+    (move TellsNews w m mid w.kept w.told w.wire shows.machine (record { talk = talk; note = note_kind.Recorded number; talks = is; news = news; told = mid_is }) sound
     (wired_on m.host mid.host w.wire up up'))
     (shows_at _ mid a (running mid w.kept w.wire w.told) refl shows.kept shows.told (ap (λ v. v.stage) so) (up', same))
 
@@ -368,10 +436,12 @@ ends m mid a w why shows (room, waiting, ended) sound =
 
 -- ## What a machine hears
 
--- Where a machine stands after it has heard bytes: it still talks; it is to keep that the receipt is recorded; or its host is off the link.
+-- Where a machine stands after it has heard bytes: it still talks; it is to keep that the receipt is recorded, and perhaps to go on with the next
+-- one; or its host is off the link.
 pub data Stands : MachineView → Type 0 where
   Talks : {m : MachineView} (talk : Talk) → m.stage ≡ stage.Talking talk → m.host.phase ≢ Down → Stands m
   Done : {m : MachineView} (e : Entry) (number : ℕ) → m.stage ≡ stage.Keeping e (then.Recorded number) → m.host.phase ≢ Down → Stands m
+  On : {m : MachineView} (e : Entry) (number : ℕ) (tried : Entry) (due : Due) → m.stage ≡ stage.Keeping e (then.GoOn number tried due) → m.host.phase ≢ Down → Stands m
   Off : {m : MachineView} (note : TillNote) → m.stage ≡ stage.HangingUp note → m.host.phase ≡ Down → Stands m
 
 -- The event doesn't end the link.
@@ -385,7 +455,7 @@ byte_up heard.None h byte at h' up (inr (inl misfits)) good = absurd misfits
 byte_up heard.None h byte at h' up (inr (inr (a, spells, (ignores, same)))) good = subst (λ v. v.phase ≢ Down) (sym same) up
 byte_up heard.Opened h byte at h' up (inl grows) good = absurd grows
 byte_up heard.Opened h byte at h' up (inr (inl misfits)) good = absurd misfits
-byte_up heard.Opened h byte at h' up (inr (inr (a, spells, (first, id, phase, is, mark, same)))) good = subst (λ v. v.phase ≢ Down) (sym same) (λ bad. cc bad)
+byte_up heard.Opened h byte at h' up (inr (inr (a, spells, (first, n, id, phase, is, mark, same)))) good = subst (λ v. v.phase ≢ Down) (sym same) (λ bad. cc bad)
 byte_up (heard.Recorded number) h byte at h' up (inl grows) good = absurd grows
 byte_up (heard.Recorded number) h byte at h' up (inr (inl misfits)) good = absurd misfits
 byte_up (heard.Recorded number) h byte at h' up (inr (inr (a, spells, (id, is, r)))) good = (kept_by (with_half h []) h' id number r).up
@@ -397,7 +467,7 @@ byte_up (heard.Condition block) h byte at h' up (inr (inl misfits)) good = absur
 byte_up (heard.Condition block) h byte at h' up (inr (inr (a, spells, (is, same)))) good = subst (λ v. v.phase ≢ Down) (sym same) up
 byte_up (heard.Late id) h byte at h' up (inl grows) good = absurd grows
 byte_up (heard.Late id) h byte at h' up (inr (inl misfits)) good = absurd misfits
-byte_up (heard.Late id) h byte at h' up (inr (inr (a, spells, (first, phase, is, other, unleft, same)))) good = subst (λ v. v.phase ≢ Down) (sym same) up
+byte_up (heard.Late id) h byte at h' up (inr (inr (a, spells, (first, phase, is, other, unleft, late)))) good = (told_by (with_half h []) h' first id phase late).keeps.up
 byte_up (heard.BadAnswer place) h byte at h' up hears good = absurd good
 
 heard_up : (e : HostEvent) (h : HostView) (bytes : List ℕ) (count : ℕ) (h' : HostView) → h.phase ≢ Down → IsHeard h bytes count e h' → IsGood e → h'.phase ≢ Down
@@ -436,15 +506,17 @@ came_by b (heard.Late id) talk left before h bytes count mid up hears (inl (clos
     Done _ _ is (subst (λ v. v.phase ≢ Down) (sym same) (heard_up (heard.Late id) before bytes count h up hears tt))
 came_by b (heard.Late id) talk left before h bytes count mid up hears (inr (other, turned)) = going talk left h mid (heard_up (heard.Late id) before bytes count h up hears tt) turned
 came_by b heard.Opened talk left before h bytes count mid up hears turned = submitting talk talk.receipt left h mid (heard_up heard.Opened before bytes count h up hears tt) turned
-came_by b (heard.Recorded place) talk left before h bytes count mid up hears (same, is) =
+came_by b (heard.Recorded place) talk left before h bytes count mid up hears (same, inr goes) =
+    On _ _ _ _ goes.stage_is (subst (λ v. v.phase ≢ Down) (sym same) (heard_up (heard.Recorded place) before bytes count h up hears tt))
+came_by b (heard.Recorded place) talk left before h bytes count mid up hears (same, inl is) =
     Done _ _ is (subst (λ v. v.phase ≢ Down) (sym same) (heard_up (heard.Recorded place) before bytes count h up hears tt))
 came_by b (heard.BadAnswer place) talk left before h bytes count mid up hears (drops, is) = Off _ is (gone h mid.host drops)
 
 came_stands : (talk : Talk) (m mid : MachineView) (bytes : List ℕ) (count : ℕ) → m.host.phase ≢ Down → Came (stage.Talking talk) bytes count m mid → Stands mid
-came_stands talk m mid bytes count up (e, h, hears, turned, book) = came_by m.book e talk (talk.left - count) m.host h bytes count mid up (hears.1 up) turned
+came_stands talk m mid bytes count up (e, h, hears, turned, book, all) = came_by m.book e talk (talk.left - count) m.host h bytes count mid up (hears.1 up) turned
 
 came_within : (talk : Talk) (m mid : MachineView) (bytes : List ℕ) (count : ℕ) → m.host.phase ≢ Down → Came (stage.Talking talk) bytes count m mid → count ≤ length bytes
-came_within talk m mid bytes count up (e, h, hears, turned, book) = heard_within e m.host bytes count h (hears.1 up)
+came_within talk m mid bytes count up (e, h, hears, turned, book, all) = heard_within e m.host bytes count h (hears.1 up)
 
 -- In the world the machine hears the bytes on their way.
 heard_on : (w : World) (m mid : MachineView) (most count : ℕ) (talk : Talk) → w.machine ≡ Some m → m.stage ≡ stage.Talking talk → m.host.phase ≢ Down → Came m.stage (take most w.wire.coming) count m mid
@@ -515,6 +587,14 @@ stands_so w m mid after a bytes count counts talk was kept notes is up came soun
     subst (λ k. Leads w k a) (sym same)
     (arrive w (running mid w.kept (heard_from w.wire count) w.told) (Hear (length bytes)) mid a (heard_on w m mid (length bytes) count talk was is up came sound up')
     (shows_at _ mid a (running mid w.kept (heard_from w.wire count) w.told) refl kept notes at (up', (drop count bytes, lags))))
+stands_so w m mid after a bytes count counts talk was kept notes is up came sound within bytes_are near more on (On e number tried due at up') =
+    let same : after ≡ mid = no_more counts mid after (drop count bytes) (λ t bad. let no : stage.Keeping e (then.GoOn number tried due) ≡ stage.Talking t = sym at ∙ bad in cc) more in
+    let (event, h, hears, turned, book, all) = subst (λ s. Came s (take (length bytes) w.wire.coming) count m mid) is came in
+    let whole : count ≡ length bytes = all (subst IsGoingOn (sym at) tt) ∙ ap length (sym bytes_are) in
+    let there : heard_from w.wire count ≡ a.wire = ap (heard_from w.wire) whole ∙ near in
+    subst (λ k. Leads w k a) (sym same)
+    (arrive w (running mid w.kept (heard_from w.wire count) w.told) (Hear (length bytes)) mid a (heard_on w m mid (length bytes) count talk was is up came sound up')
+    (shows_at _ mid a (running mid w.kept (heard_from w.wire count) w.told) refl kept notes at (up', there)))
 stands_so w m mid after a bytes count counts talk was kept notes is up came sound within bytes_are near more on (Off note at down) =
     let same : after ≡ mid = no_more counts mid after (drop count bytes) (λ t bad. let no : stage.HangingUp note ≡ stage.Talking t = sym at ∙ bad in cc) more in
     subst (λ k. Leads w k a) (sym same)

@@ -1,6 +1,6 @@
 -- Why what a driver did on a store and over a line is a run of the world's driver: its store has what a crash leaves, a wire did what was
 -- done over the line, and its owner was told the notes of its deeds.
-use Rattle.std.proofs.Common.{ℕ, ◌≡◌, ◌<◌, ◌⊎◌, inl, inr, List, [], ◌∷◌, ◌++◌, length, refl, sym, ◌∙◌, ap, subst, append_assoc, append-nil}
+use Rattle.std.proofs.Common.{ℕ, ◌≡◌, ◌<◌, ◌⊎◌, inl, inr, Option, List, [], ◌∷◌, ◌++◌, length, refl, sym, ◌∙◌, ap, subst, append_assoc, append-nil}
 use Rattle.escpos_host.specs.Machine.{IsSound}
 use Rattle.escpos_link.specs.Wire.{WireView}
 use Rattle.escpos_till.specs.declared.entry.Entry.{Entry}
@@ -12,7 +12,9 @@ use Rattle.escpos_till.specs.declared.machine.TillNote.{TillNote}
 use Rattle.escpos_till.specs.declared.machine.TillNote.TheVariants as note_kind
 use Rattle.escpos_till.specs.declared.store.StoreFault.{StoreFault}
 use Rattle.escpos_till.specs.declared.surroundings.Surroundings.{Surroundings}
-use Rattle.escpos_till.specs.Driver.{Breaks, Deed, DidAll, Ends, Gives, HangsUp, Keeps, Learns, Links, Loses, Misses, Pauses, Puts, RanTo, Tells, Turns}
+use Rattle.escpos_till.specs.Appending.{added}
+use Rattle.escpos_till.proofs.DriverLemmas.{keeps_at}
+use Rattle.escpos_till.specs.Driver.{Breaks, Confirms, Deed, DidAll, Ends, Gives, HangsUp, Keeps, Learns, Links, Loses, Misses, Pauses, Puts, RanTo, Tells, Turns}
 use Rattle.escpos_till.specs.Machine.{MachineView, Rests, Unsure, after_note, hung_up, lost, told}
 use Rattle.escpos_till.specs.Surroundings.{Did}
 use Rattle.escpos_till_model.specs.Around.{DoesInTime, HasNoLink, around}
@@ -24,11 +26,12 @@ use Rattle.escpos_till_model.specs.Known.{BookMayLag}
 faithful_before : {S L : Type 0} (faithful : S → Type 0) (holds leaves : S → List Entry → Type 0) (says : S → List Entry → StoreFault → S → Type 0) (did : L → Deed → L → Type 0) (d : Deed) (old new : Surroundings S L)
     → Did faithful holds leaves says did old d new → faithful new.store → faithful old.store
 unfolding Did
-faithful_before faithful holds leaves says did (Keeps e) old new (appends, line) done = appends.was_faithful done
-faithful_before faithful holds leaves says did (Loses e why) old new (may, line) done = may.was_faithful done
+faithful_before faithful holds leaves says did (Keeps e and_then) old new (appends, line) done = appends.was_faithful done
+faithful_before faithful holds leaves says did (Loses e and_then why) old new (may, line) done = may.was_faithful done
 faithful_before faithful holds leaves says did (Learns others) old new (takes, line) done = takes.was_faithful done
 faithful_before {S} {L} faithful holds leaves says did (Tells n) old new same done = subst (λ (k : Surroundings S L). faithful k.store) same done
 faithful_before {S} {L} faithful holds leaves says did (Pauses number why) old new same done = subst (λ (k : Surroundings S L). faithful k.store) same done
+faithful_before {S} {L} faithful holds leaves says did (Confirms number) old new same done = subst (λ (k : Surroundings S L). faithful k.store) same done
 faithful_before faithful holds leaves says did Links old new (so, stays) done = stays.was_faithful done
 faithful_before faithful holds leaves says did Misses old new (so, stays) done = stays.was_faithful done
 faithful_before faithful holds leaves says did (Puts bytes) old new (so, stays) done = stays.was_faithful done
@@ -78,8 +81,8 @@ ends_on HangsUp m mid ending (n, is, mid_is) =
     (tt, subst IsEnding (sym (ap (λ v. v.stage) (mid_is ∙ ap (λ s. hung_up s m) is))) tt)
 ends_on (Tells n) m mid ending (is, mid_is) =
     (tt, subst IsEnding (sym (ap (λ v. v.stage) (mid_is ∙ ap (λ s. told s m) is))) (after_note_ends n))
-ends_on (Keeps e) m mid ending (next, is, kept) = absurd (ending_at m.stage _ is ending)
-ends_on (Loses e why) m mid ending (next, is, unsure) = absurd (ending_at m.stage _ is ending)
+ends_on (Keeps e and_then) m mid ending turns = absurd (ending_at m.stage _ (keeps_at m mid e and_then turns).1 ending)
+ends_on (Loses e and_then why) m mid ending (next, is, goes, unsure) = absurd (ending_at m.stage _ is ending)
 ends_on (Learns others) m mid ending (e, next, is, learned) = absurd (ending_at m.stage _ is ending)
 ends_on Links m mid ending (due, is, mid_is) = absurd (ending_at m.stage _ is ending)
 ends_on Misses m mid ending (due, is, mid_is) = absurd (ending_at m.stage _ is ending)
@@ -88,6 +91,7 @@ ends_on (Breaks bytes why) m mid ending (count, next, ended) = absurd (ending_at
 ends_on (Gives room bytes) m mid ending (waits, within, given) = absurd (ending_at m.stage _ waits.talks ending)
 ends_on (Ends why) m mid ending (room, waits, ended) = absurd (ending_at m.stage _ waits.talks ending)
 ends_on (Pauses number why) m mid ending (talk, is, news, mid_is) = absurd (ending_at m.stage _ is ending)
+ends_on (Confirms number) m mid ending (talk, is, recorded, mid_is) = absurd (ending_at m.stage _ is ending)
 
 -- After an entry that may be kept or not, its owner is told that; from then on it has failed.
 lost_lags : (next : Then) (why : StoreFault) → BookMayLag (lost next why)
@@ -97,9 +101,11 @@ lost_lags then.Raised why = tt
 lost_lags (then.Cancelled number tried) why = tt
 lost_lags (then.Send due) why = tt
 lost_lags (then.Recorded number) why = tt
+lost_lags (then.GoOn number tried due) why = tt
+lost_lags (then.SendNext number due) why = tt
 
-pub unsure_lags : (m mid : MachineView) (e : Entry) (why : StoreFault) → Turns m (Loses e why) mid → BookMayLag mid.stage
-unsure_lags m mid e why (next, is, unsure) = subst BookMayLag (sym (subst (λ s. Unsure s why m mid) is unsure).2) (lost_lags next why)
+pub unsure_lags : (m mid : MachineView) (e : Entry) (and_then : Option Entry) (why : StoreFault) → Turns m (Loses e and_then why) mid → BookMayLag mid.stage
+unsure_lags m mid e and_then why (next, is, goes, unsure) = subst BookMayLag (sym (subst (λ s. Unsure s why m mid) is unsure).2) (lost_lags next why)
 
 pub lags_ends : (s : Stage) → BookMayLag s → IsEnding s
 lags_ends (stage.HangingUp n) lags = tt
@@ -137,8 +143,8 @@ lags_on HangsUp m mid lags (n, is, mid_is) =
     subst BookMayLag (sym (ap (λ v. v.stage) (mid_is ∙ ap (λ s. hung_up s m) is))) (hung_lags n (subst BookMayLag is lags))
 lags_on (Tells n) m mid lags (is, mid_is) =
     subst BookMayLag (sym (ap (λ v. v.stage) (mid_is ∙ ap (λ s. told s m) is))) (told_lags n (subst BookMayLag is lags))
-lags_on (Keeps e) m mid lags turns = absurd (ends_on (Keeps e) m mid (lags_ends m.stage lags) turns).0
-lags_on (Loses e why) m mid lags turns = absurd (ends_on (Loses e why) m mid (lags_ends m.stage lags) turns).0
+lags_on (Keeps e and_then) m mid lags turns = absurd (ends_on (Keeps e and_then) m mid (lags_ends m.stage lags) turns).0
+lags_on (Loses e and_then why) m mid lags turns = absurd (ends_on (Loses e and_then why) m mid (lags_ends m.stage lags) turns).0
 lags_on (Learns others) m mid lags turns = absurd (ends_on (Learns others) m mid (lags_ends m.stage lags) turns).0
 lags_on Links m mid lags turns = absurd (ends_on Links m mid (lags_ends m.stage lags) turns).0
 lags_on Misses m mid lags turns = absurd (ends_on Misses m mid (lags_ends m.stage lags) turns).0
@@ -147,6 +153,7 @@ lags_on (Breaks bytes why) m mid lags turns = absurd (ends_on (Breaks bytes why)
 lags_on (Gives room bytes) m mid lags turns = absurd (ends_on (Gives room bytes) m mid (lags_ends m.stage lags) turns).0
 lags_on (Ends why) m mid lags turns = absurd (ends_on (Ends why) m mid (lags_ends m.stage lags) turns).0
 lags_on (Pauses number why) m mid lags turns = absurd (ends_on (Pauses number why) m mid (lags_ends m.stage lags) turns).0
+lags_on (Confirms number) m mid lags turns = absurd (ends_on (Confirms number) m mid (lags_ends m.stage lags) turns).0
 
 lags_all : {D : Type 0} (did : D → Deed → D → Type 0) (ds : List Deed) (m after : MachineView) (old new : D) → BookMayLag m.stage → DidAll did m old ds after new → BookMayLag after.stage
 lags_all did [] m after old new lags (is, same) = subst (λ (k : MachineView). BookMayLag k.stage) (sym is) lags
@@ -180,8 +187,8 @@ ends_alone faithful holds leaves says did (HangsUp ∷ ds) m after old new endin
     ends_alone faithful holds leaves says did ds mid after between new (ends_on HangsUp m mid ending turns).1 more ∙ same
 ends_alone {S} {L} faithful holds leaves says did (Tells n ∷ ds) m after old new ending (mid, between, turns, sound, same, more) =
     ends_alone faithful holds leaves says did ds mid after between new (ends_on (Tells n) m mid ending turns).1 more ∙ ap (λ (k : Surroundings S L). k.store) same
-ends_alone faithful holds leaves says did (Keeps e ∷ ds) m after old new ending (mid, between, turns, sound, first, more) = absurd (ends_on (Keeps e) m mid ending turns).0
-ends_alone faithful holds leaves says did (Loses e why ∷ ds) m after old new ending (mid, between, turns, sound, first, more) = absurd (ends_on (Loses e why) m mid ending turns).0
+ends_alone faithful holds leaves says did (Keeps e and_then ∷ ds) m after old new ending (mid, between, turns, sound, first, more) = absurd (ends_on (Keeps e and_then) m mid ending turns).0
+ends_alone faithful holds leaves says did (Loses e and_then why ∷ ds) m after old new ending (mid, between, turns, sound, first, more) = absurd (ends_on (Loses e and_then why) m mid ending turns).0
 ends_alone faithful holds leaves says did (Learns others ∷ ds) m after old new ending (mid, between, turns, sound, first, more) = absurd (ends_on (Learns others) m mid ending turns).0
 ends_alone faithful holds leaves says did (Links ∷ ds) m after old new ending (mid, between, turns, sound, first, more) = absurd (ends_on Links m mid ending turns).0
 ends_alone faithful holds leaves says did (Misses ∷ ds) m after old new ending (mid, between, turns, sound, first, more) = absurd (ends_on Misses m mid ending turns).0
@@ -190,6 +197,7 @@ ends_alone faithful holds leaves says did (Breaks bytes why ∷ ds) m after old 
 ends_alone faithful holds leaves says did (Gives room bytes ∷ ds) m after old new ending (mid, between, turns, sound, first, more) = absurd (ends_on (Gives room bytes) m mid ending turns).0
 ends_alone faithful holds leaves says did (Ends why ∷ ds) m after old new ending (mid, between, turns, sound, first, more) = absurd (ends_on (Ends why) m mid ending turns).0
 ends_alone faithful holds leaves says did (Pauses number why ∷ ds) m after old new ending (mid, between, turns, sound, first, more) = absurd (ends_on (Pauses number why) m mid ending turns).0
+ends_alone faithful holds leaves says did (Confirms number ∷ ds) m after old new ending (mid, between, turns, sound, first, more) = absurd (ends_on (Confirms number) m mid ending turns).0
 
 -- Whatever its store has, it has that to the end.
 ends_all : {D : Type 0} (ds : List Deed) (m after : MachineView) (left : List Entry) (w wire : WireView) (notes : List TillNote) → IsEnding m.stage → (did : D → Deed → D → Type 0) (old new : D) → DidAll did m old ds after new
@@ -199,8 +207,8 @@ ends_all (HangsUp ∷ ds) m after left w wire notes ending did old new (mid, bet
     (mid, around left there notes, turns, sound, on left notes, ends_all ds mid after left there wire notes (ends_on HangsUp m mid ending turns).1 did between new more rest)
 ends_all (Tells n ∷ ds) m after left w wire notes ending did old new (mid, between, turns, sound, first, more) on =
     tells_first m mid after left left w wire notes n ds turns sound (ends_all ds mid after left w wire (notes ++ n ∷ []) (ends_on (Tells n) m mid ending turns).1 did between new more on)
-ends_all (Keeps e ∷ ds) m after left w wire notes ending did old new (mid, between, turns, sound, first, more) on = absurd (ends_on (Keeps e) m mid ending turns).0
-ends_all (Loses e why ∷ ds) m after left w wire notes ending did old new (mid, between, turns, sound, first, more) on = absurd (ends_on (Loses e why) m mid ending turns).0
+ends_all (Keeps e and_then ∷ ds) m after left w wire notes ending did old new (mid, between, turns, sound, first, more) on = absurd (ends_on (Keeps e and_then) m mid ending turns).0
+ends_all (Loses e and_then why ∷ ds) m after left w wire notes ending did old new (mid, between, turns, sound, first, more) on = absurd (ends_on (Loses e and_then why) m mid ending turns).0
 ends_all (Links ∷ ds) m after left w wire notes ending did old new (mid, between, turns, sound, first, more) on = absurd (ends_on Links m mid ending turns).0
 ends_all (Learns others ∷ ds) m after left w wire notes ending did old new (mid, between, turns, sound, first, more) on = absurd (ends_on (Learns others) m mid ending turns).0
 ends_all (Misses ∷ ds) m after left w wire notes ending did old new (mid, between, turns, sound, first, more) on = absurd (ends_on Misses m mid ending turns).0
@@ -209,12 +217,13 @@ ends_all (Breaks bytes why ∷ ds) m after left w wire notes ending did old new 
 ends_all (Gives room bytes ∷ ds) m after left w wire notes ending did old new (mid, between, turns, sound, first, more) on = absurd (ends_on (Gives room bytes) m mid ending turns).0
 ends_all (Ends why ∷ ds) m after left w wire notes ending did old new (mid, between, turns, sound, first, more) on = absurd (ends_on (Ends why) m mid ending turns).0
 ends_all (Pauses number why ∷ ds) m after left w wire notes ending did old new (mid, between, turns, sound, first, more) on = absurd (ends_on (Pauses number why) m mid ending turns).0
+ends_all (Confirms number ∷ ds) m after left w wire notes ending did old new (mid, between, turns, sound, first, more) on = absurd (ends_on (Confirms number) m mid ending turns).0
 
 -- The store couldn't tell whether it has the entry: what a crash leaves says it.
-loses_so : (kept left : List Entry) (e : Entry) (why : StoreFault) (w : WireView) (notes : List TillNote) → (left ≡ kept) ⊎ (left ≡ kept ++ e ∷ [])
-    → DoesInTime (around kept w notes) (Loses e why) (around left w notes)
-loses_so kept left e why w notes (inl is) = record { events = []; wire = w; goes_on = refl; does = inl (ap (λ k. around k w notes) is) }
-loses_so kept left e why w notes (inr is) = record { events = []; wire = w; goes_on = refl; does = inr (ap (λ k. around k w notes) is) }
+loses_so : (kept left : List Entry) (e : Entry) (and_then : Option Entry) (why : StoreFault) (w : WireView) (notes : List TillNote) → (left ≡ kept) ⊎ (left ≡ kept ++ added e and_then)
+    → DoesInTime (around kept w notes) (Loses e and_then why) (around left w notes)
+loses_so kept left e and_then why w notes (inl is) = record { events = []; wire = w; goes_on = refl; does = inl (ap (λ k. around k w notes) is) }
+loses_so kept left e and_then why w notes (inr is) = record { events = []; wire = w; goes_on = refl; does = inr (ap (λ k. around k w notes) is) }
 
 -- ## A whole run
 
@@ -254,19 +263,19 @@ goes_all : {S L : Type 0} (faithful : S → Type 0) (holds leaves : S → List E
 unfolding Did
 goes_all {S} {L} faithful holds leaves says did [] m after old new kept w wire notes (is, same) done held on =
     inl (kept, subst (λ (k : Surroundings S L). holds k.store kept) (sym same) held, (is, same_around kept kept wire w notes refl on))
-goes_all faithful holds leaves says did (Keeps e ∷ ds) m after old new kept w wire notes (mid, between, turns, sound, (appends, line), more) done held on =
+goes_all faithful holds leaves says did (Keeps e and_then ∷ ds) m after old new kept w wire notes (mid, between, turns, sound, (appends, line), more) done held on =
     let held_more = appends.kept (was_faithful faithful holds leaves says did ds mid after between new more done) kept held in
-    ends_so holds leaves new.store after.stage (Goes mid (kept ++ e ∷ []) w notes ds after wire) (Goes m kept w notes (Keeps e ∷ ds) after wire)
-    (λ entries goes. (mid, around (kept ++ e ∷ []) w notes, turns, sound, record { events = []; wire = w; goes_on = refl; does = refl }, goes))
-    (goes_all faithful holds leaves says did ds mid after between new (kept ++ e ∷ []) w wire notes more done held_more on)
-goes_all {S} {L} faithful holds leaves says did (Loses e why ∷ ds) m after old new kept w wire notes (mid, between, turns, sound, (appends, line), more) done held on =
-    let lags = unsure_lags m mid e why turns in
+    ends_so holds leaves new.store after.stage (Goes mid (kept ++ added e and_then) w notes ds after wire) (Goes m kept w notes (Keeps e and_then ∷ ds) after wire)
+    (λ entries goes. (mid, around (kept ++ added e and_then) w notes, turns, sound, record { events = []; wire = w; goes_on = refl; does = refl }, goes))
+    (goes_all faithful holds leaves says did ds mid after between new (kept ++ added e and_then) w wire notes more done held_more on)
+goes_all {S} {L} faithful holds leaves says did (Loses e and_then why ∷ ds) m after old new kept w wire notes (mid, between, turns, sound, (appends, line), more) done held on =
+    let lags = unsure_lags m mid e and_then why turns in
     let stays = ends_alone faithful holds leaves says did ds mid after between new (lags_ends mid.stage lags) more in
     inr (
       lags_all (Did faithful holds leaves says did) ds mid after between new lags more,
       λ left may.
           let so = appends.kept_or_not (subst faithful stays done) kept left held (subst (λ s. leaves s left) stays may) in
-          (mid, around left w notes, turns, sound, loses_so kept left e why w notes so, ends_all ds mid after left w wire notes (lags_ends mid.stage lags) (Did faithful holds leaves says did) between new more on),
+          (mid, around left w notes, turns, sound, loses_so kept left e and_then why w notes so, ends_all ds mid after left w wire notes (lags_ends mid.stage lags) (Did faithful holds leaves says did) between new more on),
     )
 goes_all faithful holds leaves says did (Learns others ∷ ds) m after old new kept w wire notes (mid, between, turns, sound, (takes, line), more) done held on =
     let (added, held_more) = takes.took (was_faithful faithful holds leaves says did ds mid after between new more done) kept held in
@@ -275,6 +284,10 @@ goes_all faithful holds leaves says did (Learns others ∷ ds) m after old new k
     (goes_all faithful holds leaves says did ds mid after between new (kept ++ others) w wire notes more done held_more on)
 goes_all {S} {L} faithful holds leaves says did (Pauses number why ∷ ds) m after old new kept w wire notes (mid, between, turns, sound, same, more) done held on =
     ends_so holds leaves new.store after.stage (Goes mid kept w notes ds after wire) (Goes m kept w notes (Pauses number why ∷ ds) after wire)
+    (λ entries goes. (mid, around kept w notes, turns, sound, record { events = []; wire = w; goes_on = refl; does = refl }, goes))
+    (goes_all faithful holds leaves says did ds mid after between new kept w wire notes more done (subst (λ (k : Surroundings S L). holds k.store kept) (sym same) held) on)
+goes_all {S} {L} faithful holds leaves says did (Confirms number ∷ ds) m after old new kept w wire notes (mid, between, turns, sound, same, more) done held on =
+    ends_so holds leaves new.store after.stage (Goes mid kept w notes ds after wire) (Goes m kept w notes (Confirms number ∷ ds) after wire)
     (λ entries goes. (mid, around kept w notes, turns, sound, record { events = []; wire = w; goes_on = refl; does = refl }, goes))
     (goes_all faithful holds leaves says did ds mid after between new kept w wire notes more done (subst (λ (k : Surroundings S L). holds k.store kept) (sym same) held) on)
 goes_all {S} {L} faithful holds leaves says did (Tells n ∷ ds) m after old new kept w wire notes (mid, between, turns, sound, same, more) done held on =
@@ -340,13 +353,15 @@ pub fits_all : {S L : Type 0} (faithful : S → Type 0) (holds leaves : S → Li
     → (wire : WireView) × AllOnWire w ds wire × fits new.line wire
 unfolding Did
 fits_all {S} {L} faithful holds leaves says did fits does [] m after old new w (is, same) like = (w, refl, subst (λ (k : Surroundings S L). fits k.line w) (sym same) like)
-fits_all faithful holds leaves says did fits does (Keeps e ∷ ds) m after old new w (mid, between, turns, sound, (appends, same), more) like =
+fits_all faithful holds leaves says did fits does (Keeps e and_then ∷ ds) m after old new w (mid, between, turns, sound, (appends, same), more) like =
     fits_all faithful holds leaves says did fits does ds mid after between new w more (subst (λ l. fits l w) (sym same) like)
 fits_all faithful holds leaves says did fits does (Learns others ∷ ds) m after old new w (mid, between, turns, sound, (takes, same), more) like =
     fits_all faithful holds leaves says did fits does ds mid after between new w more (subst (λ l. fits l w) (sym same) like)
-fits_all faithful holds leaves says did fits does (Loses e why ∷ ds) m after old new w (mid, between, turns, sound, (appends, same), more) like =
+fits_all faithful holds leaves says did fits does (Loses e and_then why ∷ ds) m after old new w (mid, between, turns, sound, (appends, same), more) like =
     fits_all faithful holds leaves says did fits does ds mid after between new w more (subst (λ l. fits l w) (sym same) like)
 fits_all {S} {L} faithful holds leaves says did fits does (Pauses number why ∷ ds) m after old new w (mid, between, turns, sound, same, more) like =
+    fits_all faithful holds leaves says did fits does ds mid after between new w more (subst (λ (k : Surroundings S L). fits k.line w) (sym same) like)
+fits_all {S} {L} faithful holds leaves says did fits does (Confirms number ∷ ds) m after old new w (mid, between, turns, sound, same, more) like =
     fits_all faithful holds leaves says did fits does ds mid after between new w more (subst (λ (k : Surroundings S L). fits k.line w) (sym same) like)
 fits_all {S} {L} faithful holds leaves says did fits does (Tells n ∷ ds) m after old new w (mid, between, turns, sound, same, more) like =
     fits_all faithful holds leaves says did fits does ds mid after between new w more (subst (λ (k : Surroundings S L). fits k.line w) (sym same) like)
@@ -386,8 +401,8 @@ rests_so : (s other : Stage) → s ≡ other → Rests s → Rests other
 rests_so s other is rests = subst Rests is rests
 
 no_turn : (d : Deed) (m mid : MachineView) → Rests m.stage → Turns m d mid → ⊥
-no_turn (Keeps e) m mid rests (next, is, kept) = rests_so m.stage _ is rests
-no_turn (Loses e why) m mid rests (next, is, unsure) = rests_so m.stage _ is rests
+no_turn (Keeps e and_then) m mid rests turns = rests_so m.stage _ (keeps_at m mid e and_then turns).1 rests
+no_turn (Loses e and_then why) m mid rests (next, is, goes, unsure) = rests_so m.stage _ is rests
 no_turn (Learns others) m mid rests (e, next, is, learned) = rests_so m.stage _ is rests
 no_turn Links m mid rests (due, is, mid_is) = rests_so m.stage _ is rests
 no_turn Misses m mid rests (due, is, mid_is) = rests_so m.stage _ is rests
@@ -397,6 +412,7 @@ no_turn (Gives room bytes) m mid rests (waits, within, given) = rests_so m.stage
 no_turn (Ends why) m mid rests (room, waits, ended) = rests_so m.stage _ waits.talks rests
 no_turn HangsUp m mid rests (n, is, mid_is) = rests_so m.stage _ is rests
 no_turn (Pauses number why) m mid rests (talk, is, news, mid_is) = rests_so m.stage _ is rests
+no_turn (Confirms number) m mid rests (talk, is, recorded, mid_is) = rests_so m.stage _ is rests
 no_turn (Tells n) m mid rests (is, mid_is) = rests_so m.stage _ is rests
 
 after_note_rests : (n : TillNote) → Rests (after_note n)
@@ -431,9 +447,9 @@ pub one_note : {D : Type 0} (did : D → Deed → D → Type 0) (ds : List Deed)
     → notes_of (ds ++ Tells n ∷ []) ≡ n ∷ []
 one_note did [] n m after old new all = refl
 one_note did (Tells x ∷ ds) n m after old new (mid, between, turns, sound, first, more) = absurd (no_more did ds n mid after between new (subst Rests (sym (told_stage m mid x turns)) (after_note_rests x)) more)
-one_note did (Keeps e ∷ ds) n m after old new (mid, between, turns, sound, first, more) = one_note did ds n mid after between new more
+one_note did (Keeps e and_then ∷ ds) n m after old new (mid, between, turns, sound, first, more) = one_note did ds n mid after between new more
 one_note did (Learns others ∷ ds) n m after old new (mid, between, turns, sound, first, more) = one_note did ds n mid after between new more
-one_note did (Loses e why ∷ ds) n m after old new (mid, between, turns, sound, first, more) = one_note did ds n mid after between new more
+one_note did (Loses e and_then why ∷ ds) n m after old new (mid, between, turns, sound, first, more) = one_note did ds n mid after between new more
 one_note did (Links ∷ ds) n m after old new (mid, between, turns, sound, first, more) = one_note did ds n mid after between new more
 one_note did (Misses ∷ ds) n m after old new (mid, between, turns, sound, first, more) = one_note did ds n mid after between new more
 one_note did (Puts bytes ∷ ds) n m after old new (mid, between, turns, sound, first, more) = one_note did ds n mid after between new more
@@ -441,6 +457,7 @@ one_note did (Breaks bytes why ∷ ds) n m after old new (mid, between, turns, s
 one_note did (Gives room bytes ∷ ds) n m after old new (mid, between, turns, sound, first, more) = one_note did ds n mid after between new more
 one_note did (Ends why ∷ ds) n m after old new (mid, between, turns, sound, first, more) = one_note did ds n mid after between new more
 one_note did (Pauses number why ∷ ds) n m after old new (mid, between, turns, sound, first, more) = one_note did ds n mid after between new more
+one_note did (Confirms number ∷ ds) n m after old new (mid, between, turns, sound, first, more) = one_note did ds n mid after between new more
 one_note did (HangsUp ∷ ds) n m after old new (mid, between, turns, sound, first, more) = one_note did ds n mid after between new more
 
 -- At its end the machine rests: it is at rest, or has failed.

@@ -7,7 +7,7 @@ use Rattle.escpos_host.specs.declared.host.HostEvent.{HostEvent}
 use Rattle.escpos_host.specs.declared.host.HostEvent.TheVariants as heard
 use Rattle.escpos_host.specs.Heard.{Grows, HearsAll, HearsByte, HearsInTurn, IsHeard, Misfits, Turns, last_of, opened, recorded, with_half}
 use Rattle.escpos_host.specs.Machine.{HostView, InFlight, Phase, Down, Opening, Open, gone_down, in_flight, receipts_of, taken_out}
-use Rattle.escpos_host.proofs.Recording.{none_has}
+use Rattle.escpos_host.proofs.Recording.{Told, none_has, told}
 use Rattle.escpos_link.specs.declared.event.Event.TheVariants as event
 use Rattle.escpos_link.specs.declared.event.Note.{Note}
 use Rattle.escpos_link.specs.EventTable.{After, heard_to}
@@ -71,8 +71,8 @@ opening_is_up phase first is e = let bad : Opening first ≡ Down = sym is ∙ e
 open_is_up : (phase : Phase) (flight : List InFlight) → phase ≡ Open flight → phase ≡ Down → ⊥
 open_is_up phase flight is e = let bad : Open flight ≡ Down = sym is ∙ e in cc
 
-is_opened : (h : HostView) (first : ℕ) → h.phase ≡ Opening first → GoesOn h (opened h)
-is_opened h first is = record {
+is_opened : (h : HostView) (first n : ℕ) → h.phase ≡ Opening first → GoesOn h (opened h n)
+is_opened h first n is = record {
   grown = [];
   lost = [];
   records = sym (append-nil h.records);
@@ -81,7 +81,7 @@ is_opened h first is = record {
   down = λ e. absurd (opening_is_up h.phase first is e);
 }
 
-is_recorded : (h : HostView) (before : List InFlight) (p : InFlight) (ps : List InFlight) → h.phase ≡ Open (before ++ p ∷ ps) → GoesOn h (recorded h (before ++ p ∷ []) ps)
+is_recorded : (h : HostView) (before : List InFlight) (p : InFlight) (ps : List InFlight) → h.phase ≡ Open (before ++ p ∷ ps) → GoesOn h (recorded h before p ps)
 is_recorded h before p ps is = record {
   grown = receipts_of (before ++ p ∷ []);
   lost = [];
@@ -92,13 +92,24 @@ is_recorded h before p ps is = record {
   down = λ e. absurd (open_is_up h.phase (before ++ p ∷ ps) is e);
 }
 
+-- An answer to a mark of an older link is told.
+told_on : (h after : HostView) → Told h after → GoesOn h after
+told_on h after t = record {
+  grown = [];
+  lost = [];
+  records = t.records ∙ sym (append-nil h.records);
+  flight = ap in_flight (sym t.phase) ∙ sym (append-nil (in_flight after.phase));
+  next = t.keeps.next;
+  down = λ e. t.phase ∙ e;
+}
+
 opening_is_open : (first : ℕ) (flight : List InFlight) → Open flight ≡ Opening first → ⊥
 opening_is_open first flight e = cc e
 
 turned : (h after : HostView) (a : Answer) (e : HostEvent) → NothingLeft h → Turns h a e after → GoesOn h after × NothingLeft after
 turned h after a heard.None nothing (ignored, same) = (stays_same h after same, subst NothingLeft (sym same) nothing)
-turned h after a heard.Opened nothing (first, id, is, answer, mark, same) =
-    (subst (GoesOn h) (sym same) (is_opened h first is), subst NothingLeft (sym same) (λ other opening. absurd (opening_is_open other [] opening)))
+turned h after a heard.Opened nothing (first, n, id, is, answer, mark, same) =
+    (subst (GoesOn h) (sym same) (is_opened h first n is), subst NothingLeft (sym same) (λ other opening. absurd (opening_is_open other [] opening)))
 turned h after a (heard.Recorded number) nothing (id, answer, r) = elim r.way [
   | inl (flight, is, f, same) ↦ (
     subst (GoesOn h) (sym same) (is_recorded h r.before r.last r.others (is ∙ ap Open f.all_are)),
@@ -108,7 +119,8 @@ turned h after a (heard.Recorded number) nothing (id, answer, r) = elim r.way [
 ]
 turned h after a (heard.Status byte) nothing (answer, same) = (stays_same h after same, subst NothingLeft (sym same) nothing)
 turned h after a (heard.Condition block) nothing (answer, same) = (stays_same h after same, subst NothingLeft (sym same) nothing)
-turned h after a (heard.Late id) nothing (first, is, answer, other, unleft, same) = (stays_same h after same, subst NothingLeft (sym same) nothing)
+turned h after a (heard.Late id) nothing (first, is, answer, other, unleft, late) =
+    let t = told h after first id is late in (told_on h after t, λ other opening. t.left ∙ nothing other (sym t.phase ∙ opening))
 turned h after a (heard.BadAnswer place) nothing turns = absurd turns
 
 with_half_on : (h : HostView) (half : List ℕ) → GoesOn h (with_half h half)

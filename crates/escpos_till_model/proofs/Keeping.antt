@@ -1,11 +1,10 @@
 -- What keeps a till's records and numbers right holds after each kind of step.
-use Rattle.std.proofs.Common.{ℕ, ◌≡◌, ◌+◌, ◌<◌, ◌≤◌, ◌⊎◌, inl, inr, Option, Some, None, List, [], ◌∷◌, ◌++◌, length, map, take, refl, sym, ◌∙◌, ap, subst, append-nil, append_assoc, length-append, arith}
+use Rattle.std.proofs.Common.{ℕ, suc, ◌≡◌, ◌+◌, ◌<◌, ◌≤◌, ◌⊎◌, inl, inr, Option, Some, None, List, [], ◌∷◌, ◌++◌, length, map, take, refl, sym, ◌∙◌, ap, subst, append-nil, append_assoc, length-append, arith}
 use Rattle.std.proofs.lemmas.List.{map-append, take-append-le, take_all}
 use Rattle.escpos_command.specs.declared.command.Command.{Command}
-use Rattle.escpos_command.specs.Digits.{mark_of}
-use Rattle.escpos_host.specs.Machine.{HostView, InFlight, Phase, Down, Opening, Open, in_flight, linked_reporting, nudged, reports_asked, submitted}
+use Rattle.escpos_command.specs.Digits.{mark_count}
+use Rattle.escpos_host.specs.Machine.{HostView, InFlight, Phase, Down, Opening, Open, closed_by, in_flight, linked_reporting, nudged, reports_asked, submitted}
 use Rattle.escpos_link.specs.EventTable.{hung_up}
-use Rattle.escpos_link.specs.Resumed.{resumed_host}
 use Rattle.escpos_till.specs.declared.entry.Entry.{Entry}
 use Rattle.escpos_till.specs.declared.entry.Entry.TheVariants.{Tried, Recorded}
 use Rattle.escpos_till.specs.Entries.{MayFollow, next_free, record_of, recorded}
@@ -48,6 +47,7 @@ in_hand_grows es e (Some hand) answered h follows is = record {
     entries_are = ap (λ v. v ++ e ∷ []) is.reserved.entries_are ∙ append_assoc is.reserved.before (Tried hand.number hand.limit ∷ is.reserved.following) (e ∷ []);
     from = is.reserved.from;
     to = is.reserved.to;
+    few = is.reserved.few;
   };
   below = omega (arith, is.below, next_grows es e follows);
   sent = sent_grows es (e ∷ []) hand.number hand.receipt (answered ++ in_flight h.phase) is.sent;
@@ -126,9 +126,14 @@ gone_keeps es hand h k = record {
 
 -- ## A receipt is taken in hand
 
-abbrev pub take_keeps : (es : List Entry) (h : HostView) (number limit : ℕ) (commands : List Command) → MayFollow es (Tried number limit) → IsReceiptOf es number commands → Keeps es None h
-    → Keeps (es ++ Tried number limit ∷ []) (Some (record { number = number; receipt = Some commands; limit = limit })) (resumed_host h (next_free es) (length (recorded es)))
-take_keeps es h number limit commands follows is k =
+-- The host that goes on with the receipts that are recorded, and doesn't know what was heard.
+abbrev pub anew : HostView → ℕ → ℕ → HostView
+anew h f count = record { phase = Down; out = []; half = []; next = f; heard = 0; records = take count h.records; left = [] }
+
+abbrev pub take_keeps : (es : List Entry) (h : HostView) (number limit : ℕ) (commands : List Command) → MayFollow es (Tried number limit) → limit ≤ mark_count → IsReceiptOf es number commands
+    → Keeps es None h
+    → Keeps (es ++ Tried number limit ∷ []) (Some (record { number = number; receipt = Some commands; limit = limit })) (anew h (next_free es) (length (recorded es)))
+take_keeps es h number limit commands follows few is k =
     let e = Tried number limit in
     record {
       ledger = ledger-snoc es e k.ledger follows;
@@ -140,7 +145,7 @@ take_keeps es h number limit commands follows is k =
           ∙ sym (append-nil k.receipts);
       next = next_grows es e follows;
       in_hand = record {
-        reserved = record { before = es; following = []; entries_are = refl; from = omega arith; to = omega (arith, follows.1) };
+        reserved = record { before = es; following = []; entries_are = refl; from = omega arith; to = omega (arith, follows.1); few = few };
         below = omega (arith, next_after_tried es number limit);
         sent = (receipt_of_grows es (e ∷ []) number commands is, refl);
       };
@@ -167,6 +172,7 @@ used_keeps es hand left h after k number limit records next within sent = record
           ∙ ap (λ n. k.in_hand.reserved.before ++ Tried left.number n ∷ k.in_hand.reserved.following) (sym limit);
       from = omega (arith, next, k.in_hand.reserved.from);
       to = omega (arith, next, within, limit);
+      few = omega (arith, limit, k.in_hand.reserved.few);
     };
     below = omega (arith, limit, k.in_hand.below);
     sent = sent;
@@ -193,12 +199,12 @@ asked_keeps es hand h k = record {
   in_hand = record { reserved = k.in_hand.reserved; below = k.in_hand.below; sent = k.in_hand.sent };
 }
 
-pub one_more : (answered some : List (List Command)) (commands : List Command) (flight : List InFlight) (mark : List ℕ) → some ≡ in_flight (Open flight) → answered ++ some ≡ []
-    → answered ++ in_flight (Open (flight ++ record { receipt = commands; mark = mark } ∷ [])) ≡ commands ∷ []
-one_more answered some commands flight mark is none =
-    let p : InFlight = record { receipt = commands; mark = mark } in
+pub one_more : (answered some : List (List Command)) (commands : List Command) (flight : List InFlight) (p : InFlight) → p.receipt ≡ commands → some ≡ in_flight (Open flight) → answered ++ some ≡ []
+    → answered ++ in_flight (Open (flight ++ p ∷ [])) ≡ commands ∷ []
+one_more answered some commands flight p sent is none =
     let f : InFlight → List Command = λ q. q.receipt in
     ap (λ v. answered ++ v) (map-append f flight (p ∷ []))
+    ∙ ap (λ r. answered ++ (map f flight ++ r ∷ [])) sent
     ∙ sym (append_assoc answered (map f flight) (commands ∷ []))
     ∙ ap (λ v. v ++ commands ∷ []) (ap (λ v. answered ++ v) (sym is) ∙ none)
 
@@ -208,7 +214,7 @@ abbrev pub submitted_keeps : (es : List Entry) (hand : Hand) (h : HostView) (fli
 submitted_keeps es hand h flight commands has is within k =
     let (receipt, none) = subst (λ (r : Option (List Command)). IsSent es hand.number r (k.answered ++ in_flight h.phase)) has k.in_hand.sent in
     used_keeps es hand (record { number = hand.number; receipt = None; limit = hand.limit }) h (submitted h flight commands) k refl refl refl refl within
-    (commands, receipt, inr (one_more k.answered (in_flight h.phase) commands flight (mark_of h.next) (ap in_flight is) none))
+    (commands, receipt, inr (one_more k.answered (in_flight h.phase) commands flight (closed_by commands h.next) refl (ap in_flight is) none))
 
 -- ## What is answered is recorded
 
@@ -238,4 +244,52 @@ record_keeps es hand h follows more k =
       records = hung_records h.phase h ∙ k.records ∙ ap (λ v. k.receipts ++ v) same ∙ sym (append-nil (k.receipts ++ commands ∷ []));
       next = omega (arith, hung_next h.phase h, k.next, next_grows es e follows);
       in_hand = hung_phase h.phase h refl;
+    }
+
+-- The same, where the host stays on its link: what was in hand is recorded, and nothing of it is left.
+abbrev pub record_stays : (es : List Entry) (hand : Hand) (h : HostView) → MayFollow es (Recorded hand.number) → length (recorded es) < length h.records → h.phase ≡ Open [] → Keeps es (Some hand) h
+    → Keeps (es ++ Recorded hand.number ∷ []) (Some (record { number = hand.number; receipt = None; limit = hand.limit })) h
+record_stays es hand h follows more ready k =
+    let e = Recorded hand.number in
+    let count = zip_length (IsReceiptOf es) (recorded es) k.receipts k.are in
+    let some : 0 < length k.answered = omega (arith, more, count, ap length k.records, length-append k.receipts k.answered) in
+    let (commands, is, same) = answered_one es hand.number hand.receipt k.answered (in_flight h.phase) some k.in_hand.sent in
+    record {
+      ledger = ledger-snoc es e k.ledger follows;
+      receipts = k.receipts ++ commands ∷ [];
+      are = are_add es hand.number commands k.receipts k.are is;
+      answered = [];
+      records = k.records ∙ ap (λ v. k.receipts ++ v) same ∙ sym (append-nil (k.receipts ++ commands ∷ []));
+      next = omega (arith, k.next, next_grows es e follows);
+      in_hand = in_hand_grows es e (Some (record { number = hand.number; receipt = None; limit = hand.limit })) [] h follows (record {
+        reserved = k.in_hand.reserved;
+        below = k.in_hand.below;
+        sent = (commands, is, inl (ap in_flight ready));
+      });
+    }
+
+pub nil_of : {X : Type 0} (xs : List X) → length xs ≡ 0 → xs ≡ []
+nil_of [] none = refl
+nil_of (x ∷ xs) none = absurd (let bad : suc (length xs) ≡ 0 = none in cc)
+
+-- The next receipt is taken in hand, for which the host's link is ready.
+abbrev pub next_keeps : (es : List Entry) (hand : Hand) (h : HostView) (number : ℕ) (commands : List Command) → MayFollow es (Tried number (next_free es + 1)) → IsReceiptOf es number commands
+    → next_free es + 1 ≤ mark_count → h.phase ≡ Open [] → h.next ≡ next_free es → length h.records ≡ length (recorded es) → Keeps es (Some hand) h
+    → Keeps (es ++ Tried number (next_free es + 1) ∷ []) (Some (record { number = number; receipt = Some commands; limit = next_free es + 1 })) h
+next_keeps es hand h number commands follows is few ready marks all k =
+    let e = Tried number (next_free es + 1) in
+    let count = zip_length (IsReceiptOf es) (recorded es) k.receipts k.are in
+    let none : k.answered ≡ [] = nil_of k.answered (omega (arith, all, count, ap length k.records, length-append k.receipts k.answered)) in
+    record {
+      ledger = ledger-snoc es e k.ledger follows;
+      receipts = k.receipts;
+      are = are_same es e k.receipts refl k.are;
+      answered = [];
+      records = k.records ∙ ap (λ v. k.receipts ++ v) none;
+      next = omega (arith, k.next, next_grows es e follows);
+      in_hand = record {
+        reserved = record { before = es; following = []; entries_are = refl; from = omega (arith, marks); to = omega (arith, marks); few = few };
+        below = omega (arith, next_after_tried es number (next_free es + 1));
+        sent = (receipt_of_grows es (e ∷ []) number commands is, ap in_flight ready);
+      };
     }

@@ -1,5 +1,5 @@
 -- Why a receipt has the key that it came with, where a driver has told its number.
-use Rattle.std.proofs.Common.{ℕ, ◌≡◌, ◌+◌, inl, inr, Some, List, [], ◌∷◌, ◌++◌, length, refl, sym, ◌∙◌, ap, subst, append_assoc, length-append, append-nil, arith}
+use Rattle.std.proofs.Common.{ℕ, ◌≡◌, ◌+◌, inl, inr, Option, Some, None, List, [], ◌∷◌, ◌++◌, length, refl, sym, ◌∙◌, ap, subst, append_assoc, length-append, append-nil, arith}
 use Rattle.std.proofs.lemmas.List.Elements.{filter_map-append}
 use Rattle.escpos_till.specs.declared.book.Book.{Book}
 use Rattle.escpos_till.specs.declared.entry.Content.{Content}
@@ -13,10 +13,10 @@ use Rattle.escpos_till.specs.declared.machine.TillNote.{TillNote}
 use Rattle.escpos_till.specs.declared.machine.TillNote.TheVariants as note_kind
 use Rattle.escpos_till.specs.declared.store.StoreFault.{StoreFault}
 use Rattle.escpos_till.specs.Book.{IsBookOf}
-use Rattle.escpos_till.specs.Driver.{Breaks, Deed, DidAll, Ends, Gives, HangsUp, Keeps, Learns, Links, Loses, Misses, Pauses, Puts, RanTo, Tells, Turns}
+use Rattle.escpos_till.specs.Driver.{Breaks, Confirms, Deed, DidAll, Ends, Gives, HangsUp, Keeps, Learns, Links, Loses, Misses, Pauses, Puts, RanTo, Tells, Turns}
 use Rattle.escpos_till.specs.Learning.{Learned}
 use Rattle.escpos_till.specs.Entries.{HasKey, IsLedger, MayFollow, content_of, contents, states}
-use Rattle.escpos_till.specs.Machine.{Kept, MachineView, Queues, Unsure, after_note, lost, told}
+use Rattle.escpos_till.specs.Machine.{Kept, MachineView, Queues, Unsure, after_note, entry_with, lost, told}
 use Rattle.escpos_till.proofs.EntryLemmas.{count_states, ledger-snoc, length-taken}
 use Rattle.escpos_till_model.specs.Around.{Around, DoesInTime}
 
@@ -66,6 +66,8 @@ kept_on then.Raised key kept m mid e takes so = absurd takes
 kept_on (then.Cancelled number tried) key kept m mid e takes so = absurd takes
 kept_on (then.Send due) key kept m mid e takes so = absurd takes
 kept_on (then.Recorded number) key kept m mid e takes so = absurd takes
+kept_on (then.GoOn number tried due) key kept m mid e takes so = absurd takes
+kept_on (then.SendNext number due) key kept m mid e takes so = absurd takes
 
 not_told : (key : List ℕ) (kept : List Entry) (b : Book) (why : StoreFault) → Takes key kept b (stage.Telling (note_kind.NotKept why))
 not_told key kept b why number is = absurd (let bad : note_kind.NotKept why ≡ note_kind.Queued number = is in cc)
@@ -77,6 +79,8 @@ lost_on then.Raised why key kept after b c e takes = absurd takes
 lost_on (then.Cancelled number tried) why key kept after b c e takes = absurd takes
 lost_on (then.Send due) why key kept after b c e takes = absurd takes
 lost_on (then.Recorded number) why key kept after b c e takes = absurd takes
+lost_on (then.GoOn number tried due) why key kept after b c e takes = absurd takes
+lost_on (then.SendNext number due) why key kept after b c e takes = absurd takes
 
 told_on : (n : TillNote) (key : List ℕ) (kept : List Entry) (b : Book) → Takes key kept b (after_note n)
 told_on (note_kind.Queued number) key kept b = tt
@@ -98,12 +102,26 @@ learned_on e then.Raised others key kept after m mid takes (inl learns) = absurd
 learned_on e (then.Cancelled number tried) others key kept after m mid takes (inl learns) = absurd takes
 learned_on e (then.Send due) others key kept after m mid takes (inl learns) = absurd takes
 learned_on e (then.Recorded number) others key kept after m mid takes (inl learns) = absurd takes
+learned_on e (then.GoOn number tried due) others key kept after m mid takes (inl learns) = absurd takes
+learned_on e (then.SendNext number due) others key kept after m mid takes (inl learns) = absurd takes
+
+-- Nothing is kept together with such an entry.
+alone : (key : List ℕ) (kept : List Entry) (b : Book) (e f : Entry) (next : Then) → Takes key kept b (stage.Keeping e next) → entry_with next ≡ Some f → ⊥
+alone key kept b e f (then.GoOn number tried due) takes with = takes
+alone key kept b e f (then.SendNext number due) takes with = takes
+alone key kept b e f (then.Recorded number) takes with = takes
+alone key kept b e f (then.Send due) takes with = takes
+alone key kept b e f then.Raised takes with = takes
+alone key kept b e f (then.Cancelled number tried) takes with = takes
+alone key kept b e f then.Queued takes with = (let bad : None ≡ Some f = with in cc)
+alone key kept b e f (then.Take content) takes with = (let bad : None ≡ Some f = with in cc)
 
 -- It goes on so, deed by deed.
 takes_on : (d : Deed) (key : List ℕ) (m mid : MachineView) (a new : Around) → Takes key a.kept m.book m.stage → Turns m d mid → DoesInTime a d new → Takes key new.kept mid.book mid.stage
-takes_on (Keeps e) key m mid a new takes (next, is, kept) did =
+takes_on (Keeps e None) key m mid a new takes (next, is, kept) did =
     subst (λ es. Takes key es mid.book mid.stage) (sym (ap (λ k. k.kept) did.does)) (kept_on next key a.kept m mid e (takes_at key a.kept m.book m.stage _ is takes) (subst (λ s. Kept s m mid) is kept))
-takes_on (Loses e why) key m mid a new takes (next, is, unsure) did =
+takes_on (Keeps e (Some f)) key m mid a new takes (between, next, is, with, kept, sound, second) did = absurd (alone key a.kept m.book e f next (takes_at key a.kept m.book m.stage _ is takes) with)
+takes_on (Loses e and_then why) key m mid a new takes (next, is, goes, unsure) did =
     takes_as key new.kept mid.book mid.stage (lost next why) (subst (λ s. Unsure s why m mid) is unsure).2
     (lost_on next why key a.kept new.kept m.book mid.book e (takes_at key a.kept m.book m.stage _ is takes))
 takes_on (Learns others) key m mid a new takes (e, next, is, learned) did =
@@ -118,6 +136,7 @@ takes_on (Gives room bytes) key m mid a new takes (waits, within, given) did = a
 takes_on (Ends why) key m mid a new takes (room, waits, ended) did = absurd (takes_at key a.kept m.book m.stage _ waits.talks takes)
 takes_on HangsUp key m mid a new takes (n, is, mid_is) did = absurd (takes_at key a.kept m.book m.stage _ is takes)
 takes_on (Pauses number why) key m mid a new takes (talk, is, news, mid_is) did = absurd (takes_at key a.kept m.book m.stage _ is takes)
+takes_on (Confirms number) key m mid a new takes (talk, is, recorded, mid_is) did = absurd (takes_at key a.kept m.book m.stage _ is takes)
 
 ends_keyed : (ds : List Deed) (key : List ℕ) (number : ℕ) (m after : MachineView) (a new : Around) → Takes key a.kept m.book m.stage
     → DidAll DoesInTime m a (ds ++ Tells (note_kind.Queued number) ∷ []) after new → HasKey new.kept key number

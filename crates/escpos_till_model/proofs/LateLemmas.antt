@@ -6,9 +6,10 @@ use Rattle.std.proofs.lemmas.Bool.{cases_lt}
 use Rattle.std.proofs.lemmas.List.Elements.{filter_map-append}
 use Rattle.escpos_command.specs.declared.command.Command.{Command}
 use Rattle.escpos_command.specs.Answers.{Hears}
-use Rattle.escpos_command.specs.Digits.{mark_count, mark_of}
+use Rattle.escpos_command.specs.Digits.{mark_count}
+use Rattle.escpos_host.specs.Counted.{id_of}
 use Rattle.escpos_host.specs.Earlier.{with_earlier}
-use Rattle.escpos_host.specs.Machine.{HostView, IsSound, Down}
+use Rattle.escpos_host.specs.Machine.{HostView, IsSound, Down, closed_by}
 use Rattle.escpos_host.proofs.Earlier.{earlier_sound}
 use Rattle.escpos_link.specs.declared.event.Event.{Event}
 use Rattle.escpos_link.specs.declared.event.Event.TheVariants as event
@@ -186,7 +187,7 @@ late_more es e records l ledger none late =
 
 -- One that says that the first receipt that waits is tried.
 pub late_tried : (es : List Entry) (m next : ℕ) (records : List (List Command)) (receipt : List Command) (l : LineView) → IsLedger es → MayFollow es (Tried m next)
-    → ((k : ℕ) → Waits es k → m ≤ k) → IsReceiptOf es m receipt → (next - 1 < mark_count → Promised records (record { receipt = receipt; mark = mark_of (next - 1) }) l)
+    → ((k : ℕ) → Waits es k → m ≤ k) → IsReceiptOf es m receipt → (next - 1 < mark_count → Promised records (closed_by receipt (next - 1)) l)
     → LateAnswers es records l → LateAnswers (es ++ Tried m next ∷ []) records l
 late_tried es m next records receipt l ledger follows leads is made late =
     let e = Tried m next in
@@ -205,7 +206,7 @@ late_tried es m next records receipt l ledger follows leads is made late =
         | inr (inl (number, closing)) ↦ (
           receipt,
           receipt_of_grows es (e ∷ []) n receipt (subst (λ k. IsReceiptOf es k receipt) number is),
-          subst (λ k. Promised records (record { receipt = receipt; mark = mark_of k }) l) closing (made (omega (arith, closing, few))),
+          subst (λ k. Promised records (closed_by receipt k) l) closing (made (omega (arith, closing, few))),
         )
         | inr (inr none) ↦ absurd none
       ];
@@ -236,14 +237,14 @@ late_recorded es m c0 records l others after ledger waits_m has_m late =
 -- ## The line goes on
 
 pub late_on : LineLaws → (es : List Entry) (records : List (List Command)) (e : Event) (l after : LineView) (n : Note) → IsFitting e → IsSound l.host → Right l → After e l n after
-    → ((number closing : ℕ) → HasTry (tries es) number closing → closing < mark_count → PutsOther e l.host (mark_of closing)) → LateAnswers es records l → LateAnswers es records after
+    → ((number closing : ℕ) → HasTry (tries es) number closing → closing < mark_count → PutsOther e l.host (id_of closing)) → LateAnswers es records l → LateAnswers es records after
 late_on laws es records e l after n fits sound right happened other late = record {
   first = late.first;
   promise = λ number closing waits has few.
       let (receipt, is, promised) = late.promise number closing waits has few in (
         receipt,
         is,
-        laws.promise.stays e l after n records (record { receipt = receipt; mark = mark_of closing }) fits sound right.line happened right.trusted (other number closing has few) promised,
+        laws.promise.stays e l after n records (closed_by receipt closing) fits sound right.line happened right.trusted (other number closing has few) promised,
       );
 }
 
@@ -260,7 +261,7 @@ late_host es records h other w half out late = record {
           answers = promised.answers;
           hears = subst (λ v. Hears (v ++ w.coming) promised.answers []) (sym half) promised.hears;
           by = subst
-              (λ v. PromisedBy w.printer.sheet.line_dots (record { receipt = receipt; mark = mark_of closing }) records v w.printer.sheet w.printer.half w.ended w.live
+              (λ v. PromisedBy w.printer.sheet.line_dots (closed_by receipt closing) records v w.printer.sheet w.printer.half w.ended w.live
               (answered_marks (promised.answers ++ w.printer.waiting))) (sym out) promised.by;
         },
       );
@@ -289,7 +290,7 @@ late_off laws es records l host half late = record {
   first = late.first;
   promise = λ number closing waits has few.
       let (receipt, is, promised) = late.promise number closing waits has few in
-      (receipt, is, laws.promise.off l host records (record { receipt = receipt; mark = mark_of closing }) half promised);
+      (receipt, is, laws.promise.off l host records (closed_by receipt closing) half promised);
 }
 
 -- A host with no link, made anew.
@@ -305,12 +306,12 @@ late_idle laws es records h w down right late = record {
   first = late.first;
   promise = λ number closing waits has few.
       let (receipt, is, promised) = late.promise number closing waits has few in
-      (receipt, is, laws.promise.idle h w records (record { receipt = receipt; mark = mark_of closing }) down right.line right.trusted promised);
+      (receipt, is, laws.promise.idle h w records (closed_by receipt closing) down right.line right.trusted promised);
 }
 
 -- Two marks with other numbers.
-pub other_mark : LineLaws → (m n : ℕ) → m < mark_count → n < mark_count → m ≢ n → mark_of m ≢ mark_of n
-other_mark laws m n few more differ same = differ (laws.one_number m n few more same)
+pub other_mark : LineLaws → (m n : ℕ) → m < mark_count → n < mark_count → m ≢ n → id_of m ≢ id_of n
+other_mark laws m n few more differ same = differ (laws.one_number m n few more (sym (laws.first_round m few) ∙ same ∙ laws.first_round n more))
 
 -- ## Which try it is
 

@@ -7,6 +7,7 @@ pub mod LateLemmas
 pub mod WorldCalls
 pub mod WorldStore
 pub mod WorldHears
+pub mod WorldKeeps
 pub mod WorldLearns
 pub mod Worlds
 mod Again
@@ -26,3 +27,4 @@ mod OffLine
 mod Rows
 mod WireLines
 mod CarryingDeeds
+mod Confirming

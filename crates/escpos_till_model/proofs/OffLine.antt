@@ -1,5 +1,5 @@
 -- Why a call that only keeps an entry does nothing over the line.
-use Rattle.std.proofs.Common.{◌≡◌, inl, inr, List, [], ◌∷◌, refl, sym, ◌∙◌, ap, subst}
+use Rattle.std.proofs.Common.{◌≡◌, inl, inr, Option, Some, None, List, [], ◌∷◌, refl, sym, ◌∙◌, ap, subst}
 use Rattle.escpos_link.specs.Wire.{WireView}
 use Rattle.escpos_till.specs.declared.entry.Entry.{Entry}
 use Rattle.escpos_till.specs.declared.entry.Entry.TheVariants as entry
@@ -10,9 +10,9 @@ use Rattle.escpos_till.specs.declared.machine.Then.TheVariants as then
 use Rattle.escpos_till.specs.declared.machine.TillNote.{TillNote}
 use Rattle.escpos_till.specs.declared.machine.TillNote.TheVariants as note_kind
 use Rattle.escpos_till.specs.declared.store.StoreFault.{StoreFault}
-use Rattle.escpos_till.specs.Driver.{Breaks, Call, Calls, Cancel, Deed, Deliver, DidAll, Ends, Gives, HangsUp, Keeps, Learns, Links, Loses, Misses, Pauses, Puts, Queue, Raise, Tells, Turns}
+use Rattle.escpos_till.specs.Driver.{Breaks, Call, Calls, Cancel, Confirms, Deed, Deliver, DidAll, Ends, Gives, HangsUp, Keeps, Learns, Links, Loses, Misses, Pauses, Puts, Queue, Raise, Tells, Turns}
 use Rattle.escpos_till.specs.Learning.{Learned}
-use Rattle.escpos_till.specs.Machine.{Kept, MachineView, Unsure, after_note, lost, told}
+use Rattle.escpos_till.specs.Machine.{Kept, MachineView, Unsure, after_note, entry_with, lost, told}
 use Rattle.escpos_till_model.specs.Bridge.{AllOnWire, IsOffLine, IsOnLine}
 use Rattle.escpos_till_model.proofs.Queueing.{queues_to}
 
@@ -51,6 +51,19 @@ kept_quiet e then.Raised m mid quiet (notes, (host, is)) = quiet_as mid.stage (s
 kept_quiet e (then.Cancelled number tried) m mid quiet (notes, (host, is)) = quiet_as mid.stage (stage.Telling (note_kind.Cancelled number tried)) is tt
 kept_quiet e (then.Send due) m mid quiet kept = absurd quiet
 kept_quiet e (then.Recorded number) m mid quiet kept = absurd quiet
+kept_quiet e (then.GoOn number tried due) m mid quiet kept = absurd quiet
+kept_quiet e (then.SendNext number due) m mid quiet kept = absurd quiet
+
+-- Nothing is kept together with such an entry.
+alone : (e f : Entry) (next : Then) → IsQuiet (stage.Keeping e next) → entry_with next ≡ Some f → ⊥
+alone e f (then.GoOn number tried due) quiet with = quiet
+alone e f (then.SendNext number due) quiet with = quiet
+alone e f (then.Recorded number) quiet with = quiet
+alone e f (then.Send due) quiet with = quiet
+alone e f then.Queued quiet with = (let bad : None ≡ Some f = with in cc)
+alone e f (then.Take content) quiet with = (let bad : None ≡ Some f = with in cc)
+alone e f then.Raised quiet with = (let bad : None ≡ Some f = with in cc)
+alone e f (then.Cancelled number tried) quiet with = (let bad : None ≡ Some f = with in cc)
 
 lost_quiet : (e : Entry) (next : Then) (why : StoreFault) → IsQuiet (stage.Keeping e next) → IsQuiet (lost next why)
 lost_quiet e then.Queued why quiet = tt
@@ -59,6 +72,8 @@ lost_quiet e then.Raised why quiet = tt
 lost_quiet e (then.Cancelled number tried) why quiet = tt
 lost_quiet e (then.Send due) why quiet = absurd quiet
 lost_quiet e (then.Recorded number) why quiet = absurd quiet
+lost_quiet e (then.GoOn number tried due) why quiet = absurd quiet
+lost_quiet e (then.SendNext number due) why quiet = absurd quiet
 
 learned_quiet : (e : Entry) (next : Then) (others : List Entry) (m mid : MachineView) → IsQuiet (stage.Keeping e next) → Learned (stage.Keeping e next) others m mid → IsQuiet mid.stage
 learned_quiet e next others m mid quiet (inr (why, fails)) = quiet_as mid.stage (lost next why) fails.2 (lost_quiet e next why quiet)
@@ -68,11 +83,14 @@ learned_quiet e then.Raised others m mid quiet (inl learns) = absurd learns.2
 learned_quiet e (then.Cancelled number tried) others m mid quiet (inl learns) = absurd learns.2
 learned_quiet e (then.Send due) others m mid quiet (inl learns) = absurd quiet
 learned_quiet e (then.Recorded number) others m mid quiet (inl learns) = absurd quiet
+learned_quiet e (then.GoOn number tried due) others m mid quiet (inl learns) = absurd quiet
+learned_quiet e (then.SendNext number due) others m mid quiet (inl learns) = absurd quiet
 
 -- It asks for nothing over the line, and goes on so.
 quiet_on : (d : Deed) (m mid : MachineView) → IsQuiet m.stage → Turns m d mid → (IsOnLine d → ⊥) × IsQuiet mid.stage
-quiet_on (Keeps e) m mid quiet (next, is, kept) = (λ on. on, kept_quiet e next m mid (quiet_at m.stage _ is quiet) (subst (λ s. Kept s m mid) is kept))
-quiet_on (Loses e why) m mid quiet (next, is, unsure) =
+quiet_on (Keeps e None) m mid quiet (next, is, kept) = (λ on. on, kept_quiet e next m mid (quiet_at m.stage _ is quiet) (subst (λ s. Kept s m mid) is kept))
+quiet_on (Keeps e (Some f)) m mid quiet (between, next, is, with, kept, sound, second) = absurd (alone e f next (quiet_at m.stage _ is quiet) with)
+quiet_on (Loses e and_then why) m mid quiet (next, is, goes, unsure) =
     (λ on. on, quiet_as mid.stage (lost next why) (subst (λ s. Unsure s why m mid) is unsure).2 (lost_quiet e next why (quiet_at m.stage _ is quiet)))
 quiet_on (Learns others) m mid quiet (e, next, is, learned) =
     (λ on. on, learned_quiet e next others m mid (quiet_at m.stage _ is quiet) (subst (λ s. Learned s others m mid) is learned))
@@ -85,13 +103,15 @@ quiet_on (Gives room bytes) m mid quiet (waits, within, given) = absurd (quiet_a
 quiet_on (Ends why) m mid quiet (room, waits, ended) = absurd (quiet_at m.stage _ waits.talks quiet)
 quiet_on HangsUp m mid quiet (n, is, mid_is) = absurd (quiet_at m.stage _ is quiet)
 quiet_on (Pauses number why) m mid quiet (talk, is, news, mid_is) = absurd (quiet_at m.stage _ is quiet)
+quiet_on (Confirms number) m mid quiet (talk, is, recorded, mid_is) = absurd (quiet_at m.stage _ is quiet)
 
 quiet_first : (d : Deed) (ds : List Deed) (w : WireView) → (IsOnLine d → ⊥) → AllOnWire w ds w → AllOnWire w (d ∷ ds) w
-quiet_first (Keeps e) ds w never rest = rest
-quiet_first (Loses e why) ds w never rest = rest
+quiet_first (Keeps e and_then) ds w never rest = rest
+quiet_first (Loses e and_then why) ds w never rest = rest
 quiet_first (Learns others) ds w never rest = rest
 quiet_first (Tells n) ds w never rest = rest
 quiet_first (Pauses number why) ds w never rest = rest
+quiet_first (Confirms number) ds w never rest = rest
 quiet_first Links ds w never rest = absurd (never tt)
 quiet_first Misses ds w never rest = absurd (never tt)
 quiet_first (Puts bytes) ds w never rest = absurd (never tt)
@@ -110,7 +130,7 @@ asked_quiet : (call : Call) (m asked : MachineView) → IsOffLine call → Calls
 asked_quiet (Queue content key) m asked off calls = queues_to IsQuiet (λ number. tt) (λ c. tt) (λ e c. tt) m content key asked calls
 asked_quiet (Raise first) m asked off calls = quiet_as asked.stage _ (ap (λ v. v.stage) calls.after_is) tt
 asked_quiet (Cancel number) m asked off calls = quiet_as asked.stage _ (ap (λ v. v.stage) calls.after_is) tt
-asked_quiet (Deliver openings most copy) m asked off calls = absurd off
+asked_quiet (Deliver openings most copy further) m asked off calls = absurd off
 
 -- A wire stays as it is while such a call is served.
 pub off_line : {D : Type 0} (did : D → Deed → D → Type 0) (call : Call) (ds : List Deed) (m asked after : MachineView) (old new : D) (w : WireView) → IsOffLine call → Calls m call asked

@@ -30,19 +30,19 @@ abbrev happening_of : Call → Happening
 happening_of (Queue content key) = event.Queue content key
 happening_of (Raise first) = event.Raise first
 happening_of (Cancel number) = event.Cancel number
-happening_of (Deliver openings most copy) = event.Deliver openings most copy
+happening_of (Deliver openings most copy further) = event.Deliver openings most copy further
 
 asked_host : (call : Call) (m asked : MachineView) → Calls m call asked → asked.host ≡ m.host
 asked_host (Queue content key) m asked calls = calls.host
 asked_host (Raise first) m asked calls = ap (λ v. v.host) calls.after_is
 asked_host (Cancel number) m asked calls = ap (λ v. v.host) calls.after_is
-asked_host (Deliver openings most copy) m asked calls = calls.0.host
+asked_host (Deliver openings most copy further) m asked calls = calls.0.host
 
 asked_no_link : (call : Call) (m asked : MachineView) → Calls m call asked → HasNoLink asked.stage
 asked_no_link (Queue content key) m asked calls = queues_to HasNoLink (λ number. tt) (λ c. tt) (λ e c. tt) m content key asked calls
 asked_no_link (Raise first) m asked calls = subst HasNoLink (sym (ap (λ v. v.stage) calls.after_is)) tt
 asked_no_link (Cancel number) m asked calls = subst HasNoLink (sym (ap (λ v. v.stage) calls.after_is)) tt
-asked_no_link (Deliver openings most copy) m asked calls = subst HasNoLink (sym calls.0.connects) tt
+asked_no_link (Deliver openings most copy further) m asked calls = subst HasNoLink (sym calls.0.connects) tt
 
 -- The call happens in the world, where nothing else changes.
 called_so : Fitting → (call : Call) (w : World) (m asked : MachineView) → w.machine ≡ Some m → Calls m call asked → MayCall call → IsSound asked.host
@@ -50,10 +50,10 @@ called_so : Fitting → (call : Call) (w : World) (m asked : MachineView) → w.
 called_so fitting (Queue content key) w m asked was calls may sound = called_in (λ k after. Queues k content key after) w w m asked refl was calls sound (asked_host (Queue content key) m asked calls)
 called_so fitting (Raise first) w m asked was calls may sound = called_in (λ k after. Raises k first after) w w m asked refl was calls sound (asked_host (Raise first) m asked calls)
 called_so fitting (Cancel number) w m asked was calls may sound = called_in (λ k after. Cancels k number after) w w m asked refl was calls sound (asked_host (Cancel number) m asked calls)
-called_so fitting (Deliver openings most copy) w m asked was calls is_copy sound = (
+called_so fitting (Deliver openings most copy further) w m asked was calls is_copy sound = (
   is_copy,
-  called_in (λ k after. Delivers k openings most copy after × FitsLine after.stage) w w m asked refl was (calls.0, fits_by fitting asked.stage calls.1) sound
-      (asked_host (Deliver openings most copy) m asked calls),
+  called_in (λ k after. Delivers k openings most copy further after × FitsLine after.stage) w w m asked refl was (calls.0, fits_by fitting asked.stage calls.1) sound
+      (asked_host (Deliver openings most copy further) m asked calls),
 )
 
 host_sound : (w : World) (m : MachineView) → IsWorld w → w.machine ≡ Some m → IsSound m.host

@@ -19,11 +19,14 @@ use Rattle.escpos_till_model.proofs.WireEvents.{goes_on_given_up, goes_on_more, 
 -- ## What a world and what surrounds a machine have in common
 
 -- The wires, by where the machine stands. While a try is to be kept, a link is there already on which the world's host isn't yet. After an
--- event that records, bytes that came with it are dropped, which in the world are still on their way. Once the host is off its link, that is
+-- event that records, bytes that came with it are dropped, which in the world are still on their way; there are none where the next receipt
+-- goes over the same link. Once the host is off its link, that is
 -- given up in the world, and not yet by the driver.
 abbrev pub ShowsWire : Stage → HostView → WireView → WireView → Type 0
 ShowsWire (stage.Keeping e (then.Send due)) h w near = (h.phase ≡ Down) × ((events : List Event) × GoesOnBy (with_link w) events near)
 ShowsWire (stage.Keeping e (then.Recorded number)) h w near = (h.phase ≢ Down) × ((dropped : List ℕ) × (w ≡ with_more dropped near))
+ShowsWire (stage.Keeping e (then.GoOn number tried due)) h w near = (h.phase ≢ Down) × (w ≡ near)
+ShowsWire (stage.Keeping e (then.SendNext number due)) h w near = (h.phase ≢ Down) × (w ≡ near)
 ShowsWire (stage.Talking talk) h w near = (h.phase ≢ Down) × (w ≡ near)
 ShowsWire (stage.HangingUp note) h w near = (h.phase ≡ Down) × (w ≡ given_up near)
 ShowsWire s h w near = (h.phase ≡ Down) × (w ≡ near)
@@ -140,6 +143,10 @@ later (stage.Keeping e (then.Recorded number)) m a w es after is shows (up, (dro
     (subst (λ v. GoesOnBy v es (with_more dropped after)) (sym same) (goes_on_with_more es dropped a.wire after goes)) (up, (dropped, refl))
 later (stage.HangingUp note) m a w es after is shows (down, same) goes =
     later_with m a w es after (given_up after) (stage.HangingUp note) is shows (subst (λ v. GoesOnBy v es (given_up after)) (sym same) (goes_on_given_up es a.wire after goes)) (down, refl)
+later (stage.Keeping e (then.GoOn number tried due)) m a w es after is shows (up, same) goes =
+    later_with m a w es after after (stage.Keeping e (then.GoOn number tried due)) is shows (later_same m a w es after same goes) (up, refl)
+later (stage.Keeping e (then.SendNext number due)) m a w es after is shows (up, same) goes =
+    later_with m a w es after after (stage.Keeping e (then.SendNext number due)) is shows (later_same m a w es after same goes) (up, refl)
 later (stage.Talking talk) m a w es after is shows (up, same) goes = later_with m a w es after after (stage.Talking talk) is shows (later_same m a w es after same goes) (up, refl)
 later stage.AtRest m a w es after is shows (down, same) goes = later_with m a w es after after stage.AtRest is shows (later_same m a w es after same goes) (down, refl)
 later (stage.Connecting due) m a w es after is shows (down, same) goes = later_with m a w es after after (stage.Connecting due) is shows (later_same m a w es after same goes) (down, refl)

@@ -6,7 +6,7 @@ use Rattle.escpos_host.specs.Earlier.{with_earlier}
 use Rattle.escpos_host.specs.Heard.{EndsLink}
 use Rattle.escpos_host.specs.declared.host.HostEvent.{HostEvent}
 use Rattle.escpos_host.specs.declared.host.HostEvent.TheVariants as heard
-use Rattle.escpos_host.specs.Machine.{Down, HostView, IsSound, Opening, reports_asked, submitted}
+use Rattle.escpos_host.specs.Machine.{Down, HostView, IsSound, Open, Opening, reports_asked, submitted}
 use Rattle.escpos_link.specs.declared.event.Event.TheVariants as line
 use Rattle.escpos_link.specs.declared.event.Refused.{Refused}
 use Rattle.escpos_link.specs.EventTable.{delivered, left_by}
@@ -29,11 +29,12 @@ use Rattle.escpos_till.specs.declared.machine.TillNote.{TillNote}
 use Rattle.escpos_till.specs.declared.store.StoreFault.{StoreFault}
 use Rattle.escpos_till.specs.Machine.{Came, Drops, Ended, Follows, GoesOn, Kept, MachineView, Opens, Submits, Suits, Turns, Unsure, connected, hung_up, not_connected, told, with_pause}
 use Rattle.escpos_till_model.specs.Kept.{Hand, IsInHand, Keeps}
-use Rattle.escpos_till_model.specs.Known.{Holds, IsToKeep, IsWorld, Linked}
+use Rattle.escpos_till_model.specs.Known.{Holds, IsToKeep, IsWorld}
+use Rattle.escpos_till.specs.Machine.{IsLinked as Linked}
 use Rattle.escpos_till_model.specs.World.{Calls, GoesOnWire, Hears, Idles, Runs, Stores, Tells, Wired, World, running, with_entry, with_wire}
 use Rattle.escpos_till_model.specs.declared.event.Happening.TheVariants as event
 use Rattle.std.proofs.lemmas.Option.{same_Some}
-use Rattle.escpos_till_model.proofs.WorldStore.{refused_host}
+use Rattle.escpos_till_model.proofs.WorldKeeps.{refused_host}
 use Rattle.escpos_till_model.proofs.WorldHears.{heard_one}
 use Rattle.escpos_till_model.proofs.LinesKept.{down_or_up}
 use Rattle.escpos_till_model.proofs.WorldCalls.{parts}
@@ -108,18 +109,15 @@ tells w m after n was is same sound = record {
 pub up_by : (kept : List Entry) (hand : Option Hand) (h : HostView) (s : Stage) → Holds kept hand h s → Linked s → h.phase ≢ Down
 up_by kept hand h stage.AtRest holds linked = absurd linked
 up_by kept hand h (stage.Connecting due) holds linked = absurd linked
-up_by kept hand h (stage.Keeping (entry.Queued content) next) holds linked = absurd linked
-up_by kept hand h (stage.Keeping (entry.Tried number limit) next) holds linked = absurd linked
-up_by kept hand h (stage.Keeping (entry.Raised first) next) holds linked = absurd linked
-up_by kept hand h (stage.Keeping (entry.Cancelled number) next) holds linked = absurd linked
-up_by kept hand h (stage.Keeping (entry.Key key) next) holds linked = absurd linked
-up_by kept hand h (stage.Keeping (entry.Recorded number) then.Queued) (follows, (none, content, is)) linked = absurd (cc is)
-up_by kept hand h (stage.Keeping (entry.Recorded number) (then.Take content)) (follows, (none, suits)) linked = absurd suits
-up_by kept hand h (stage.Keeping (entry.Recorded number) then.Raised) (follows, (none, first, is)) linked = absurd (cc is)
-up_by kept hand h (stage.Keeping (entry.Recorded number) (then.Cancelled n tried)) (follows, (none, is, times)) linked = absurd (cc is)
-up_by kept hand h (stage.Keeping (entry.Recorded number) (then.Send due)) (follows, (none, send, is)) linked = absurd (cc is)
-up_by kept hand h (stage.Keeping (entry.Recorded number) (then.Recorded k)) (follows, (held, hand_is, same, is, more, up)) linked = up
-up_by kept hand h (stage.Talking talk) (held, hand_is, number, receipt, follows, records, up, reserved) linked = up
+up_by kept hand h (stage.Keeping e then.Queued) holds linked = absurd linked
+up_by kept hand h (stage.Keeping e (then.Take content)) holds linked = absurd linked
+up_by kept hand h (stage.Keeping e then.Raised) holds linked = absurd linked
+up_by kept hand h (stage.Keeping e (then.Cancelled n tried)) holds linked = absurd linked
+up_by kept hand h (stage.Keeping e (then.Send due)) holds linked = absurd linked
+up_by kept hand h (stage.Keeping e (then.Recorded k)) (follows, (held, hand_is, same, is, more, up)) linked = up
+up_by kept hand h (stage.Keeping e (then.GoOn k tried due)) (follows, ((held, hand_is, same, is, more, up), send)) linked = up
+up_by kept hand h (stage.Keeping e (then.SendNext k due)) (follows, (held, hand_is, all, send, so)) linked = λ down. let bad : Open [] ≡ Down = sym send.link ∙ down in cc
+up_by kept hand h (stage.Talking talk) (held, hand_is, number, receipt, follows, records, up, reserved, news) linked = up
 up_by kept hand h (stage.HangingUp n) holds linked = absurd linked
 up_by kept hand h (stage.Telling n) holds linked = absurd linked
 up_by kept hand h stage.Failed holds linked = absurd linked
@@ -135,8 +133,9 @@ down_by kept hand h (stage.Keeping e (then.Take content)) k (follows, (none, sui
 down_by kept hand h (stage.Keeping e then.Raised) k (follows, (none, first, is)) linked = none_down kept hand h k none
 down_by kept hand h (stage.Keeping e (then.Cancelled number tried)) k (follows, (none, is, times)) linked = none_down kept hand h k none
 down_by kept hand h (stage.Keeping e (then.Send due)) k (follows, (none, send, is)) linked = none_down kept hand h k none
-down_by kept hand h (stage.Keeping e (then.Recorded number)) k (follows, (held, hand_is, same, is, more, up)) linked =
-    absurd (linked (subst (λ x. Linked (stage.Keeping x (then.Recorded number))) (sym is) tt))
+down_by kept hand h (stage.Keeping e (then.Recorded number)) k holds linked = absurd (linked tt)
+down_by kept hand h (stage.Keeping e (then.GoOn number tried due)) k holds linked = absurd (linked tt)
+down_by kept hand h (stage.Keeping e (then.SendNext number due)) k holds linked = absurd (linked tt)
 down_by kept hand h (stage.Talking talk) k holds linked = absurd (linked tt)
 down_by kept hand h (stage.HangingUp n) k (none, so) linked = none_down kept hand h k none
 down_by kept hand h (stage.Telling n) k (none, so) linked = none_down kept hand h k none
@@ -145,12 +144,14 @@ down_by kept hand h stage.Failed k none linked = none_down kept hand h k none
 pub linked_or_not : (s : Stage) → Linked s ⊎ (Linked s → ⊥)
 linked_or_not stage.AtRest = inr (λ l. l)
 linked_or_not (stage.Connecting due) = inr (λ l. l)
-linked_or_not (stage.Keeping (entry.Queued content) next) = inr (λ l. l)
-linked_or_not (stage.Keeping (entry.Tried number limit) next) = inr (λ l. l)
-linked_or_not (stage.Keeping (entry.Recorded number) next) = inl tt
-linked_or_not (stage.Keeping (entry.Raised first) next) = inr (λ l. l)
-linked_or_not (stage.Keeping (entry.Cancelled number) next) = inr (λ l. l)
-linked_or_not (stage.Keeping (entry.Key key) next) = inr (λ l. l)
+linked_or_not (stage.Keeping e then.Queued) = inr (λ l. l)
+linked_or_not (stage.Keeping e (then.Take content)) = inr (λ l. l)
+linked_or_not (stage.Keeping e then.Raised) = inr (λ l. l)
+linked_or_not (stage.Keeping e (then.Cancelled number tried)) = inr (λ l. l)
+linked_or_not (stage.Keeping e (then.Send due)) = inr (λ l. l)
+linked_or_not (stage.Keeping e (then.Recorded number)) = inl tt
+linked_or_not (stage.Keeping e (then.GoOn number tried due)) = inl tt
+linked_or_not (stage.Keeping e (then.SendNext number due)) = inl tt
 linked_or_not (stage.Talking talk) = inl tt
 linked_or_not (stage.HangingUp n) = inr (λ l. l)
 linked_or_not (stage.Telling n) = inr (λ l. l)
@@ -205,42 +206,41 @@ pub to_keep : (w : World) (m : MachineView) (e : Entry) (next : Then) → (known
     → let p = parts w m was known in IsToKeep w.kept p.hand (with_earlier p.earlier m.host) e next
 to_keep w m e next known was is = let p = parts w m was known in (subst (λ s. Holds w.kept p.hand (with_earlier p.earlier m.host) s) is p.holds).1
 
--- Nor is a machine on a link that keeps an entry before that of a receipt.
-first_unlinked : (e : Entry) (content : Content) → Suits (then.Take content) e → Linked (stage.Keeping e (then.Take content)) → ⊥
-first_unlinked (entry.Key key) content suits linked = linked
-first_unlinked (entry.Raised next) content suits linked = linked
-first_unlinked (entry.Queued c) content suits linked = linked
-first_unlinked (entry.Tried n next) content suits linked = linked
-first_unlinked (entry.Cancelled n) content suits linked = linked
-first_unlinked (entry.Recorded n) content suits linked = suits
-
+-- No try comes before the entry by which a receipt is taken.
 first_no_try : (e : Entry) (content : Content) (number limit : ℕ) → Suits (then.Take content) e → e ≢ entry.Tried number limit
 first_no_try e content number limit suits is = subst (Suits (then.Take content)) is suits
 
 pub other_wired : (w : World) (m after : MachineView) (wire : WireView) (e : Entry) (next : Then) (hand : Option Hand) (h : HostView) → IsWorld w → w.machine ≡ Some m
-    → m.stage ≡ stage.Keeping e next → IsToKeep w.kept hand h e next → ((number limit : ℕ) → e ≢ entry.Tried number limit)
-    → Follows next m.host m.book.next after.book after.host after.stage → (Linked m.stage → wire ≡ given_up w.wire) → ((Linked m.stage → ⊥) → wire ≡ w.wire)
-    → Wired m.host after.host w.wire wire
-other_wired w m after wire e then.Queued hand h known was is (none, content, e_is) other (number, n_is, host, now) gone stays =
-    let free : Linked m.stage → ⊥ = λ l. subst (λ x. Linked (stage.Keeping x then.Queued)) e_is (subst Linked is l) in
-    subst (λ v. Wired m.host after.host w.wire v) (sym (stays free)) (unwired m.host after.host w.wire host)
-other_wired w m after wire e (then.Take content) hand h known was is (none, suits) other (host, now) gone stays =
-    let free : Linked m.stage → ⊥ = λ l. first_unlinked e content suits (subst Linked is l) in
-    subst (λ v. Wired m.host after.host w.wire v) (sym (stays free)) (unwired m.host after.host w.wire host)
-other_wired w m after wire e then.Raised hand h known was is (none, first, e_is) other (host, now) gone stays =
-    let free : Linked m.stage → ⊥ = λ l. subst (λ x. Linked (stage.Keeping x then.Raised)) e_is (subst Linked is l) in
-    subst (λ v. Wired m.host after.host w.wire v) (sym (stays free)) (unwired m.host after.host w.wire host)
-other_wired w m after wire e (then.Cancelled number tried) hand h known was is (none, e_is, times) other (host, now) gone stays =
-    let free : Linked m.stage → ⊥ = λ l. subst (λ x. Linked (stage.Keeping x (then.Cancelled number tried))) e_is (subst Linked is l) in
-    subst (λ v. Wired m.host after.host w.wire v) (sym (stays free)) (unwired m.host after.host w.wire host)
-other_wired w m after wire e (then.Send due) hand h known was is (none, send, e_is) other so gone stays = absurd (other due.number _ e_is)
-other_wired w m after wire e (then.Recorded number) hand h known was is holds other (drops, now) gone stays = drops_wired w m after wire known was drops gone stays
+    → m.stage ≡ stage.Keeping e next → IsToKeep w.kept hand h e next → ((Linked m.stage → ⊥) → (number limit : ℕ) → e ≢ entry.Tried number limit)
+    → Follows next m.host m.book.next after.book after.host after.stage → (Linked m.stage → (Linked after.stage → ⊥) → wire ≡ given_up w.wire) → (Linked after.stage → wire ≡ w.wire)
+    → ((Linked m.stage → ⊥) → wire ≡ w.wire) → Wired m.host after.host w.wire wire
+other_wired w m after wire e then.Queued hand h known was is holds other (number, n_is, host, now) gone on stays =
+    subst (λ v. Wired m.host after.host w.wire v) (sym (stays (λ l. subst Linked is l))) (unwired m.host after.host w.wire host)
+other_wired w m after wire e (then.Take content) hand h known was is holds other (host, now) gone on stays =
+    subst (λ v. Wired m.host after.host w.wire v) (sym (stays (λ l. subst Linked is l))) (unwired m.host after.host w.wire host)
+other_wired w m after wire e then.Raised hand h known was is holds other (host, now) gone on stays =
+    subst (λ v. Wired m.host after.host w.wire v) (sym (stays (λ l. subst Linked is l))) (unwired m.host after.host w.wire host)
+other_wired w m after wire e (then.Cancelled number tried) hand h known was is holds other (host, now) gone on stays =
+    subst (λ v. Wired m.host after.host w.wire v) (sym (stays (λ l. subst Linked is l))) (unwired m.host after.host w.wire host)
+other_wired w m after wire e (then.Send due) hand h known was is (none, send, e_is) other so gone on stays = absurd (other (λ l. subst Linked is l) due.number _ e_is)
+other_wired w m after wire e (then.Recorded number) hand h known was is holds other (drops, now) gone on stays =
+    drops_wired w m after wire known was drops (λ l. gone l (λ k. subst Linked now k)) stays
+other_wired w m after wire e (then.GoOn number tried due) hand h known was is holds other (host, now) gone on stays =
+    subst (λ v. Wired m.host after.host w.wire v) (sym (on (subst Linked (sym now) tt))) (unwired m.host after.host w.wire host)
+other_wired w m after wire e (then.SendNext number due) hand h known was is holds other (inl ((phase, mark, host), now)) gone on stays =
+    let same : wire ≡ w.wire = on (subst Linked (sym now) tt) in
+    let up : m.host.phase ≢ Down = is_up w m known was (subst Linked (sym is) tt) in
+    let up' : after.host.phase ≢ Down = subst (λ v. v.phase ≢ Down) (sym host) (λ bad. cc bad) in
+    record { stays_down = λ d b. absurd (up d); goes_up = λ d b. absurd (up d); stays_up = λ a b. same; goes_down = λ a b. absurd (up' b) }
+other_wired w m after wire e (then.SendNext number due) hand h known was is holds other (inr (why, refuses, drops, now)) gone on stays =
+    drops_wired w m after wire known was drops (λ l. gone l (λ k. subst Linked now k)) stays
 
--- It isn't a try.
+-- No link is opened for it.
 pub keeps_other : (w : World) (m after : MachineView) (wire : WireView) (e : Entry) (next : Then) → IsWorld w → w.machine ≡ Some m → m.stage ≡ stage.Keeping e next
-    → ((number limit : ℕ) → e ≢ entry.Tried number limit) → Kept m.stage m after → IsSound after.host → (Linked m.stage → wire ≡ given_up w.wire) → ((Linked m.stage → ⊥) → wire ≡ w.wire)
+    → ((Linked m.stage → ⊥) → (number limit : ℕ) → e ≢ entry.Tried number limit) → Kept m.stage m after → IsSound after.host
+    → (Linked m.stage → (Linked after.stage → ⊥) → wire ≡ given_up w.wire) → (Linked after.stage → wire ≡ w.wire) → ((Linked m.stage → ⊥) → wire ≡ w.wire)
     → Stores (λ x y. Kept x.stage x y) with_entry w (running after (w.kept ++ e ∷ []) wire w.told)
-keeps_other w m after wire e next known was is other kept sound gone stays =
+keeps_other w m after wire e next known was is other kept sound gone on stays =
     let p = parts w m was known in
     let (notes, so) = subst (λ s. Kept s m after) is kept in
     record {
@@ -253,20 +253,21 @@ keeps_other w m after wire e next known was is other kept sound gone stays =
         was = was;
         goes = (is, kept);
         sound = sound;
-        wired = other_wired w m after wire e next p.hand (with_earlier p.earlier m.host) known was is (to_keep w m e next known was is) other so gone stays;
+        wired = other_wired w m after wire e next p.hand (with_earlier p.earlier m.host) known was is (to_keep w m e next known was is) other so gone on stays;
         is = refl;
       };
     }
 
-by_next : (kept : List Entry) (hand : Option Hand) (h : HostView) (m after : MachineView) (e : Entry) (next : Then) (number limit : ℕ) → e ≡ entry.Tried number limit
+by_next : (kept : List Entry) (hand : Option Hand) (h : HostView) (m after : MachineView) (e : Entry) (next : Then) (number limit : ℕ) → (Linked (stage.Keeping e next) → ⊥) → e ≡ entry.Tried number limit
     → IsToKeep kept hand h e next → Follows next m.host m.book.next after.book after.host after.stage → (due : Due) × Opens due m.book.next after.host after.stage
-by_next kept hand h m after e then.Queued number limit tried (none, content, is) so = absurd (let bad : entry.Queued content ≡ entry.Tried number limit = sym is ∙ tried in cc)
-by_next kept hand h m after e (then.Take content) number limit tried (none, suits) so = absurd (first_no_try e content number limit suits tried)
-by_next kept hand h m after e then.Raised number limit tried (none, first, is) so = absurd (let bad : entry.Raised first ≡ entry.Tried number limit = sym is ∙ tried in cc)
-by_next kept hand h m after e (then.Cancelled n often) number limit tried (none, is, times) so = absurd (let bad : entry.Cancelled n ≡ entry.Tried number limit = sym is ∙ tried in cc)
-by_next kept hand h m after e (then.Send due) number limit tried holds so = (due, so)
-by_next kept hand h m after e (then.Recorded n) number limit tried (held, hand_is, same, is, more, up) so =
-    absurd (let bad : entry.Recorded n ≡ entry.Tried number limit = sym is ∙ tried in cc)
+by_next kept hand h m after e then.Queued number limit free tried (none, content, is) so = absurd (let bad : entry.Queued content ≡ entry.Tried number limit = sym is ∙ tried in cc)
+by_next kept hand h m after e (then.Take content) number limit free tried (none, suits) so = absurd (first_no_try e content number limit suits tried)
+by_next kept hand h m after e then.Raised number limit free tried (none, first, is) so = absurd (let bad : entry.Raised first ≡ entry.Tried number limit = sym is ∙ tried in cc)
+by_next kept hand h m after e (then.Cancelled n often) number limit free tried (none, is, times) so = absurd (let bad : entry.Cancelled n ≡ entry.Tried number limit = sym is ∙ tried in cc)
+by_next kept hand h m after e (then.Send due) number limit free tried holds so = (due, so)
+by_next kept hand h m after e (then.Recorded n) number limit free tried holds so = absurd (free tt)
+by_next kept hand h m after e (then.GoOn n this due) number limit free tried holds so = absurd (free tt)
+by_next kept hand h m after e (then.SendNext n due) number limit free tried holds so = absurd (free tt)
 
 opened_up : (due : Due) (first : ℕ) (after : MachineView) (talk : Talk) → after.stage ≡ stage.Talking talk → Opens due first after.host after.stage → after.host.phase ≢ Down
 opened_up due first after talk talks (inl (host, now)) = λ gone. let bad : Opening first ≡ Down = ap (λ v. v.phase) (sym host) ∙ gone in cc
@@ -278,18 +279,17 @@ opened_down due first after silent (inr (why, refuses, now)) = let (g, host, fro
 
 -- What follows a try: the host has put its opening marks out, or couldn't.
 pub tried_follows : (w : World) (m after : MachineView) (e : Entry) (next : Then) (number limit : ℕ) → IsWorld w → w.machine ≡ Some m → m.stage ≡ stage.Keeping e next
-    → e ≡ entry.Tried number limit → Kept m.stage m after → (m.host.phase ≡ Down) × ((due : Due) × Opens due m.book.next after.host after.stage)
-tried_follows w m after e next number limit known was is tried kept =
+    → (Linked m.stage → ⊥) → e ≡ entry.Tried number limit → Kept m.stage m after → (m.host.phase ≡ Down) × ((due : Due) × Opens due m.book.next after.host after.stage)
+tried_follows w m after e next number limit known was is free tried kept =
     let p = parts w m was known in
     let (notes, so) = subst (λ s. Kept s m after) is kept in
-    let free : Linked m.stage → ⊥ = λ l. subst (λ x. Linked (stage.Keeping x next)) tried (subst Linked is l) in
-    (is_down w m known was free, by_next w.kept p.hand (with_earlier p.earlier m.host) m after e next number limit tried (to_keep w m e next known was is) so)
+    (is_down w m known was free, by_next w.kept p.hand (with_earlier p.earlier m.host) m after e next number limit (λ l. free (subst Linked (sym is) l)) tried (to_keep w m e next known was is) so)
 
 pub tried_up : (w : World) (m after : MachineView) (e : Entry) (next : Then) (number limit : ℕ) → IsWorld w → w.machine ≡ Some m → m.stage ≡ stage.Keeping e next
-    → e ≡ entry.Tried number limit → Kept m.stage m after → IsSound after.host → (talk : Talk) → after.stage ≡ stage.Talking talk
+    → (Linked m.stage → ⊥) → e ≡ entry.Tried number limit → Kept m.stage m after → IsSound after.host → (talk : Talk) → after.stage ≡ stage.Talking talk
     → Stores (λ x y. Kept x.stage x y) with_entry w (running after (w.kept ++ e ∷ []) (with_link w.wire) w.told)
-tried_up w m after e next number limit known was is tried kept sound talk talks =
-    let (down, (due, opens)) = tried_follows w m after e next number limit known was is tried kept in
+tried_up w m after e next number limit known was is free tried kept sound talk talks =
+    let (down, (due, opens)) = tried_follows w m after e next number limit known was is free tried kept in
     let up : after.host.phase ≢ Down = opened_up due m.book.next after talk talks opens in
     record {
       entry = e;
@@ -308,10 +308,10 @@ tried_up w m after e next number limit known was is tried kept sound talk talks 
 
 -- The link that was there for it is given up with nothing on it.
 pub tried_idle : (w : World) (m after : MachineView) (e : Entry) (next : Then) (number limit : ℕ) → IsWorld w → w.machine ≡ Some m → m.stage ≡ stage.Keeping e next
-    → e ≡ entry.Tried number limit → Kept m.stage m after → IsSound after.host → ((talk : Talk) → after.stage ≢ stage.Talking talk)
+    → (Linked m.stage → ⊥) → e ≡ entry.Tried number limit → Kept m.stage m after → IsSound after.host → ((talk : Talk) → after.stage ≢ stage.Talking talk)
     → Runs w (event.Idle ∷ event.Keep ∷ []) (running after (w.kept ++ e ∷ []) (given_up (with_link w.wire)) w.told)
-tried_idle w m after e next number limit known was is tried kept sound silent =
-    let (down, (due, opens)) = tried_follows w m after e next number limit known was is tried kept in
+tried_idle w m after e next number limit known was is free tried kept sound silent =
+    let (down, (due, opens)) = tried_follows w m after e next number limit known was is free tried kept in
     let none : after.host.phase ≡ Down = opened_down due m.book.next after silent opens in
     let middle : World = with_wire w (given_up (with_link w.wire)) in
     let last : World = running after (w.kept ++ e ∷ []) (given_up (with_link w.wire)) w.told in
@@ -396,7 +396,8 @@ agrees_turned b (heard.Condition block) talk left h after up (p, told, so) = agr
 agrees_turned b (heard.Late id) talk left h after up (inl (closes, same, is)) = agrees_on h after _ tt (up (λ l. l)) same is
 agrees_turned b (heard.Late id) talk left h after up (inr (other, so)) = agrees_going talk left h after (up (λ l. l)) so
 agrees_turned b heard.Opened talk left h after up so = agrees_submitted talk talk.receipt left h after (up (λ l. l)) so
-agrees_turned b (heard.Recorded place) talk left h after up so = agrees_on h after _ tt (up (λ l. l)) so.0 so.1
+agrees_turned b (heard.Recorded place) talk left h after up (same, inl is) = agrees_on h after _ tt (up (λ l. l)) same is
+agrees_turned b (heard.Recorded place) talk left h after up (same, inr goes) = agrees_on h after _ tt (up (λ l. l)) same goes.stage_is
 agrees_turned b (heard.BadAnswer place) talk left h after up so = agrees_over h after _ so.0 so.1
 
 pub hears_so : (w : World) (m after : MachineView) (talk : Talk) (most consumed : ℕ) (wire : WireView) → IsWorld w → w.machine ≡ Some m → m.stage ≡ stage.Talking talk
@@ -405,7 +406,7 @@ pub hears_so : (w : World) (m after : MachineView) (talk : Talk) (most consumed 
 hears_so w m after talk most consumed wire known was talks came sound stays gone =
     let p = parts w m was known in
     let up : m.host.phase ≢ Down = is_up w m known was (subst Linked (sym talks) tt) in
-    let (e, host, hears_one, turns, book) = subst (λ s. Came s (take most w.wire.coming) consumed m after) talks came in
+    let (e, host, hears_one, turns, book, all) = subst (λ s. Came s (take most w.wire.coming) consumed m after) talks came in
     let agrees = agrees_turned m.book e talk _ host after (λ on. (heard_one m.host host w.wire.coming most consumed e up p.sound (hears_one.1 up) on).up) turns in
     record {
       m = m;

@@ -19,7 +19,8 @@ use Rattle.escpos_till.specs.declared.machine.Then.{Then}
 use Rattle.escpos_till.specs.declared.machine.TillNote.{TillNote}
 use Rattle.escpos_till.specs.declared.store.StoreFault.{StoreFault}
 use Rattle.escpos_till.specs.Machine.{Came, Delivers, Ended, IsStarted, Kept, MachineView, SameEntries, SendsReceipt, Unsure, put, told}
-use Rattle.escpos_till_model.specs.Known.{IsWorld, Linked}
+use Rattle.escpos_till_model.specs.Known.{IsWorld}
+use Rattle.escpos_till.specs.Machine.{IsLinked as Linked}
 use Rattle.escpos_till_model.specs.World.{Begins, Breaks, Calls, Crashes, FitsLine, GoesOnWire, HasCome, Happens, Hears, Idles, IsCopy, Puts, Runs, Starts, Stores, Tells, World, is_printer_event, running, with_entry, with_wire}
 use Rattle.escpos_till_model.specs.declared.event.Happening.{Happening}
 use Rattle.escpos_till_model.specs.declared.event.Happening.TheVariants as event
@@ -82,6 +83,7 @@ unwanted_in why.Linked w v m e view was for is = absurd is
 unwanted_in why.NotCopyText w v m e view was for is = absurd is
 unwanted_in why.NotAtPrinter w v m e view was for is = absurd is
 unwanted_in why.Alone w v m e view was for is = absurd is
+unwanted_in why.OneByOne w v m e view was for is = absurd is
 unwanted_in (why.Machine cause) w v m e view was for is = absurd is
 
 pub fits_by : ((receipt : List Command) → Whole receipt → AreCommands receipt → IsFitting (line.Submit receipt)) → (s : Stage) → SendsReceipt s → FitsLine s
@@ -228,33 +230,34 @@ crash_by true w v wire view known linked none gone stays =
 crash_by false w v wire view known linked none gone stays =
     crashes_in w v wire view known (λ m was l. absurd (none (λ e. cc e) m (ap (λ x. x.machine) (sym view) ∙ was) l)) (λ free. stays (λ e. cc e))
 
-pub copied : {X Y : Type 0} (r : Result X Y) (openings most : ℕ) (copy given : Option (List ℕ)) (w new : World) → copy ≡ given → IsCopy given
-    → OnOk r (Calls (λ m after. Delivers m openings most given after × FitsLine after.stage) w new)
-    → OnOk r (IsCopy copy × Calls (λ m after. Delivers m openings most copy after × FitsLine after.stage) w new)
-copied (Ok x) openings most copy given w new same is called_so =
-    subst (λ c. IsCopy c × Calls (λ m after. Delivers m openings most c after × FitsLine after.stage) w new) (sym same) (is, called_so)
-copied (Err y) openings most copy given w new same is called_so = tt
+pub copied : {X Y : Type 0} (r : Result X Y) (openings most : ℕ) (copy : Option (List ℕ)) (further : Bool) (given : Option (List ℕ)) (w new : World) → copy ≡ given → IsCopy given
+    → OnOk r (Calls (λ m after. Delivers m openings most given further after × FitsLine after.stage) w new)
+    → OnOk r (IsCopy copy × Calls (λ m after. Delivers m openings most copy further after × FitsLine after.stage) w new)
+copied (Ok x) openings most copy further given w new same is called_so =
+    subst (λ c. IsCopy c × Calls (λ m after. Delivers m openings most c further after × FitsLine after.stage) w new) (sym same) (is, called_so)
+copied (Err y) openings most copy further given w new same is called_so = tt
 
 pub keeps_in : (w v : World) (m after : MachineView) (wire : WireView) (e : Entry) (next : Then) → v ≡ w → IsWorld w → v.machine ≡ Some m → m.stage ≡ stage.Keeping e next
-    → ((number limit : ℕ) → e ≢ entry.Tried number limit) → Kept m.stage m after → IsSound after.host → (Linked m.stage → wire ≡ given_up v.wire) → ((Linked m.stage → ⊥) → wire ≡ v.wire)
+    → ((Linked m.stage → ⊥) → (number limit : ℕ) → e ≢ entry.Tried number limit) → Kept m.stage m after → IsSound after.host
+    → (Linked m.stage → (Linked after.stage → ⊥) → wire ≡ given_up v.wire) → (Linked after.stage → wire ≡ v.wire) → ((Linked m.stage → ⊥) → wire ≡ v.wire)
     → Stores (λ x y. Kept x.stage x y) with_entry w (running after (v.kept ++ e ∷ []) wire v.told)
-keeps_in w v m after wire e next view known was is other kept sound gone stays =
+keeps_in w v m after wire e next view known was is other kept sound gone on stays =
     subst (λ x. Stores (λ a b. Kept a.stage a b) with_entry x (running after (v.kept ++ e ∷ []) wire v.told)) view
-    (keeps_other v m after wire e next (subst IsWorld (sym view) known) was is other kept sound gone stays)
+    (keeps_other v m after wire e next (subst IsWorld (sym view) known) was is other kept sound gone on stays)
 
 pub tried_in : (w v : World) (m after : MachineView) (e : Entry) (next : Then) (number limit : ℕ) → v ≡ w → IsWorld w → v.machine ≡ Some m → m.stage ≡ stage.Keeping e next
-    → e ≡ entry.Tried number limit → Kept m.stage m after → IsSound after.host → (talk : Talk) → after.stage ≡ stage.Talking talk
+    → (Linked m.stage → ⊥) → e ≡ entry.Tried number limit → Kept m.stage m after → IsSound after.host → (talk : Talk) → after.stage ≡ stage.Talking talk
     → Stores (λ x y. Kept x.stage x y) with_entry w (running after (v.kept ++ e ∷ []) (with_link v.wire) v.told)
-tried_in w v m after e next number limit view known was is tried kept sound talk talks =
+tried_in w v m after e next number limit view known was is free tried kept sound talk talks =
     subst (λ x. Stores (λ a b. Kept a.stage a b) with_entry x (running after (v.kept ++ e ∷ []) (with_link v.wire) v.told)) view
-    (tried_up v m after e next number limit (subst IsWorld (sym view) known) was is tried kept sound talk talks)
+    (tried_up v m after e next number limit (subst IsWorld (sym view) known) was is free tried kept sound talk talks)
 
 pub idled_in : (w v : World) (m after : MachineView) (e : Entry) (next : Then) (number limit : ℕ) → v ≡ w → IsWorld w → v.machine ≡ Some m → m.stage ≡ stage.Keeping e next
-    → e ≡ entry.Tried number limit → Kept m.stage m after → IsSound after.host → ((talk : Talk) → after.stage ≢ stage.Talking talk)
+    → (Linked m.stage → ⊥) → e ≡ entry.Tried number limit → Kept m.stage m after → IsSound after.host → ((talk : Talk) → after.stage ≢ stage.Talking talk)
     → Runs w (event.Idle ∷ event.Keep ∷ []) (running after (v.kept ++ e ∷ []) (given_up (with_link v.wire)) v.told)
-idled_in w v m after e next number limit view known was is tried kept sound silent =
+idled_in w v m after e next number limit view known was is free tried kept sound silent =
     subst (λ x. Runs x (event.Idle ∷ event.Keep ∷ []) (running after (v.kept ++ e ∷ []) (given_up (with_link v.wire)) v.told)) view
-    (tried_idle v m after e next number limit (subst IsWorld (sym view) known) was is tried kept sound silent)
+    (tried_idle v m after e next number limit (subst IsWorld (sym view) known) was is free tried kept sound silent)
 
 -- ## One after another
 
@@ -271,6 +274,7 @@ instead_runs why.NotAsked e w new (is, same) = ([], same)
 instead_runs why.NotCopyText e w new (is, same) = ([], same)
 instead_runs why.NotAtPrinter e w new (is, same) = ([], same)
 instead_runs why.Alone e w new (is, same) = ([], same)
+instead_runs why.OneByOne e w new (is, same) = ([], same)
 instead_runs (why.Machine cause) e w new refuses = (event.Refuse ∷ [], (new, refuses, refl))
 instead_runs why.Memory e w new (inl same) = ([], same)
 instead_runs why.Memory e w new (inr (inl (most, fewer, is, less, fed))) = (event.OnWire (line.Deliver fewer) ∷ [], (new, fed, refl))

@@ -45,12 +45,14 @@ step_width laws event.Start w new known happened = ap (λ k. width_of k.wire) ha
 step_width laws (event.Queue content key) w new known happened = ap (λ k. width_of k.wire) happened.is ∙ wired_width happened.m.host happened.after.host w.wire happened.wire happened.wired
 step_width laws (event.Raise first) w new known happened = ap (λ k. width_of k.wire) happened.is ∙ wired_width happened.m.host happened.after.host w.wire happened.wire happened.wired
 step_width laws (event.Cancel number) w new known happened = ap (λ k. width_of k.wire) happened.is ∙ wired_width happened.m.host happened.after.host w.wire happened.wire happened.wired
-step_width laws (event.Deliver openings most copy) w new known (is_copy, happened) =
+step_width laws (event.Deliver openings most copy further) w new known (is_copy, happened) =
     ap (λ k. width_of k.wire) happened.is ∙ wired_width happened.m.host happened.after.host w.wire happened.wire happened.wired
 step_width laws event.Refuse w new known happened = ap (λ k. width_of k.wire) happened.is ∙ wired_width happened.m.host happened.after.host w.wire happened.wire happened.wired
 step_width laws event.Keep w new known happened =
     ap (λ k. width_of k.wire) happened.moves.is ∙ wired_width happened.moves.m.host happened.moves.after.host w.wire happened.moves.wire happened.moves.wired
 step_width laws (event.FailWith why) w new known happened =
+    ap (λ k. width_of k.wire) happened.moves.is ∙ wired_width happened.moves.m.host happened.moves.after.host w.wire happened.moves.wire happened.moves.wired
+step_width laws (event.FailWithBoth why) w new known happened =
     ap (λ k. width_of k.wire) happened.moves.is ∙ wired_width happened.moves.m.host happened.moves.after.host w.wire happened.moves.wire happened.moves.wired
 step_width laws (event.FailWithout why) w new known happened =
     ap (λ k. width_of k.wire) happened.moves.is ∙ wired_width happened.moves.m.host happened.moves.after.host w.wire happened.moves.wire happened.moves.wired
@@ -66,7 +68,7 @@ step_width laws (event.Hear most) w new known happened =
     ap (λ k. width_of k.wire) happened.is ∙ wired_width happened.m.host happened.after.host _ happened.wire happened.wired
 step_width laws (event.End why) w new known happened = ap (λ k. width_of k.wire) happened.is ∙ wired_width happened.m.host happened.after.host w.wire happened.wire happened.wired
 step_width laws event.HangUp w new known happened = ap (λ k. width_of k.wire) happened.is ∙ wired_width happened.m.host happened.after.host w.wire happened.wire happened.wired
-step_width laws event.Pause w new known happened = ap (λ k. width_of k.wire) happened.is ∙ wired_width happened.m.host happened.after.host w.wire happened.wire happened.wired
+step_width laws event.News w new known happened = ap (λ k. width_of k.wire) happened.is ∙ wired_width happened.m.host happened.after.host w.wire happened.wire happened.wired
 step_width laws event.Tell w new known happened =
     ap (λ k. width_of k.wire) happened.moves.is ∙ wired_width happened.moves.m.host happened.moves.after.host w.wire happened.moves.wire happened.moves.wired
 step_width laws (event.OnWire e) w new known happened =

@@ -23,20 +23,19 @@ use Rattle.escpos_till.specs.Contents.{ContentDescribes}
 use Rattle.escpos_till.specs.Copy.{copy_line, sent_of}
 use Rattle.escpos_till.specs.Delivers.{marks_taken}
 use Rattle.escpos_receipt.specs.Whole.{Whole}
-use Rattle.escpos_till.specs.Delivers.{FirstWaits}
-use Rattle.escpos_till.specs.Machine.{Cancels, Delivers, Drops, Ended, IsKnown, IsNew, IsNext, MachineView, Queues, Raises, SameEntries, after_note, at, connected, ended_by_pause, hung_up as machine_hung_up, lost, not_connected, taking, told, with_pause}
+use Rattle.escpos_till.specs.Delivers.{Due as IsDue, FirstWaits}
+use Rattle.escpos_till.specs.Machine.{Cancels, Delivers, Drops, Ended, IsKnown, IsNew, IsNext, MachineView, Queues, Raises, SameEntries, after_note, at, connected, ended_by_pause, hung_up as machine_hung_up, lost, not_connected, taking, told, after_news}
 use Rattle.escpos_till.proofs.EntryLemmas.{length-taken}
 use Rattle.escpos_till.proofs.KeyLemmas.{key_taken}
 use Rattle.escpos_till_model.proofs.EntryFacts.{among_cons, among_filtered, among_last, among_nothing, first_among, first_is_taken}
 use Rattle.escpos_till_model.proofs.Keeping.{gone_keeps}
-use Rattle.escpos_till_model.specs.Receipts.{Among, IsReceipt}
+use Rattle.escpos_till_model.specs.Receipts.{Among, IsReceipt, IsReceiptOf}
 use Rattle.escpos_till_model.specs.Kept.{Hand}
 use Rattle.escpos_till_model.specs.Known.{Accounted, BookMayLag, Holds, IsHostOf, IsMachineIn, IsToSend, IsWorld}
-use Rattle.escpos_till.specs.Pauses.{no_news}
 use Rattle.escpos_till.specs.declared.pause.Pause.{Pause}
 use Rattle.escpos_host.specs.declared.send.SendFault.TheVariants as fault
 use Rattle.escpos_till.specs.declared.machine.Talk.{Talk}
-use Rattle.escpos_till_model.specs.World.{Calls, FitsLine, IsCopy, IsSendable, IsSo, Tells, TellsPause, Wired, World, running}
+use Rattle.escpos_till_model.specs.World.{Calls, FitsLine, IsCopy, IsSendable, IsSo, Tells, TellsNews, Wired, World, running}
 use Rattle.escpos_till_model.specs.Late.{HasJustBegun, LateAnswers}
 use Rattle.escpos_till_model.proofs.LateLemmas.{drops_late, first_is_least}
 use Rattle.escpos_till_model.proofs.LinesKept.{LineLaws, Right, down_or_up, goes, same_wire, drops_right, drops_hung}
@@ -218,25 +217,29 @@ first_waits es number tried content first =
     let bounds = numbered_bounds 1 (contents es) receipt among in
     record { from_one = omega (arith, bounds.0); taken = omega (arith, bounds.1, length-taken 1 (contents es)); open_still = place; not_cancelled = cancel }
 
+-- What is due is a receipt of the ledger's.
+pub due_receipt : (kept : List Entry) (copy : Option (List ℕ)) (number : ℕ) (commands : List Command) → IsCopy copy → IsDue kept copy number commands → IsReceiptOf kept number commands
+due_receipt kept copy number commands is first = record {
+  content = first.content;
+  taken = first_is_taken kept number first.tried first.content first.first;
+  receipt = sent_is first.content first.receipt commands copy first.tried is first.describes first.whole first.sent;
+}
+
 pub to_send : (b : Book) (kept : List Entry) (openings most : ℕ) (copy : Option (List ℕ)) (due : Due) → IsBookOf b kept → IsCopy copy → IsNext b openings most copy due
     → IsSendable due.receipt → IsToSend kept due
 to_send b kept openings most copy due book is next fits =
     let first = next.first kept book in
     record {
-      receipt = record {
-        content = first.content;
-        taken = first_is_taken kept due.number first.tried first.content first.first;
-        receipt = sent_is first.content first.receipt due.receipt copy first.tried is first.describes first.whole first.sent;
-      };
+      receipt = due_receipt kept copy due.number due.receipt is first;
       within = omega (arith, next.within, book.next, ap marks_taken next.marks);
       fits = fits;
       follows = (first_waits kept due.number first.tried first.content first.first, omega (arith, le-max_right due.openings 1));
       first = first_is_least kept due.number first.tried first.content first.first;
     }
 
-pub delivers : (w new : World) (openings most : ℕ) (copy : Option (List ℕ)) → IsWorld w → IsCopy copy
-    → Calls (λ m after. Delivers m openings most copy after × FitsLine after.stage) w new → IsWorld new
-delivers w new openings most copy known copy_is moves =
+pub delivers : (w new : World) (openings most : ℕ) (copy : Option (List ℕ)) (further : Bool) → IsWorld w → IsCopy copy
+    → Calls (λ m after. Delivers m openings most copy further after × FitsLine after.stage) w new → IsWorld new
+delivers w new openings most copy further known copy_is moves =
     let p = parts w moves.m moves.was known in
     let (goes, fitting) = moves.goes in
     let (book, none) = at_rest moves.m w.kept w.wire goes.rest p in
@@ -294,12 +297,17 @@ told_parts m after kept w new n is p same sound wired =
     restaged m after kept w new (stage.Telling n) (after_note n) is p (same ∙ ap (λ s. told s m) is) sound wired (told_lag n)
     (λ book holds. told_holds n kept p.hand (with_earlier p.earlier m.host) holds.0)
 
--- The owner is told of a pause: the same receipt is sent on.
+-- The owner is told news of a talk: the same receipt is sent on.
+news_holds : (kept : List Entry) (hand : Option Hand) (h : HostView) (talk : Talk) (recorded : Option ℕ) → Holds kept hand h (stage.Talking talk) → Holds kept hand h (stage.Talking (after_news recorded talk))
+news_holds kept hand h talk (Some n) (held, hand_is, number, receipt, follows, records, up, reserved, news) =
+    (held, hand_is, number, receipt, follows, records, up, reserved, λ k none. absurd (let bad : None ≡ Some k = none in cc))
+news_holds kept hand h talk None holds = holds
+
 pub paused_parts : (m after : MachineView) (kept : List Entry) (w new : WireView) (talk : Talk) → m.stage ≡ stage.Talking talk → Parts m kept w → after ≡ told m.stage m → IsSound after.host
     → Wired m.host after.host w new → Parts after kept new
 paused_parts m after kept w new talk is p same sound wired =
-    restaged m after kept w new (stage.Talking talk) (stage.Talking (with_pause talk (no_news talk.paused))) is p (same ∙ ap (λ s. told s m) is) sound wired (λ live lost. lost)
-    (λ book holds. holds)
+    restaged m after kept w new (stage.Talking talk) (stage.Talking (after_news talk.recorded talk)) is p (same ∙ ap (λ s. told s m) is) sound wired (λ live lost. lost)
+    (λ book holds. news_holds kept p.hand (with_earlier p.earlier m.host) talk talk.recorded holds)
 
 pub hung_lag : (n : TillNote) → (BookMayLag (stage.Telling n) → ⊥) → BookMayLag (stage.HangingUp n) → ⊥
 hung_lag (note_kind.Queued number) live lost = lost
@@ -423,7 +431,7 @@ told_world w new known v =
     subst IsWorld (sym moves.is) (whole moves.after w.kept moves.wire (w.told ++ v.note ∷ []) (so_more w.kept w.told v.note known.told holds.1)
     (told_parts moves.m moves.after w.kept w.wire moves.wire v.note is p same moves.sound moves.wired))
 
-pub paused_world : (w new : World) → IsWorld w → Calls TellsPause w new → IsWorld new
+pub paused_world : (w new : World) → IsWorld w → Calls TellsNews w new → IsWorld new
 paused_world w new known v = moved _ w new known v (λ p. paused_parts v.m v.after w.kept w.wire v.wire v.goes.talk v.goes.talks p v.goes.told v.sound v.wired)
 
 pub hung_world : (w new : World) → IsWorld w → Calls (λ m after. after ≡ machine_hung_up m.stage m) w new → IsWorld new

@@ -3,15 +3,16 @@ use Rattle.std.proofs.Common.{ℕ, zero, suc, ◌≡◌, ◌≢◌, ◌+◌, ◌
 use Rattle.std.specs.Prelude.{map, slice_index}
 use Rattle.escpos_command.specs.declared.command.Command.{Command}
 use Rattle.escpos_host.specs.declared.send.SendFault.{SendFault}
-use Rattle.escpos_command.specs.Digits.{mark_count, mark_of}
+use Rattle.escpos_command.specs.Digits.{mark_count}
+use Rattle.escpos_host.specs.Counted.{id_of}
 use Rattle.escpos_host.specs.Earlier.{with_earlier}
-use Rattle.escpos_host.specs.Machine.{HostView, Phase, Down, Opening, Open, IsSound, in_flight, most_in_flight, receipts_of, submitted, HasMark, InFlight, reports_asked}
+use Rattle.escpos_host.specs.Machine.{HostView, Phase, Down, Opening, Open, IsSound, in_flight, most_in_flight, receipts_of, submitted, HasMark, InFlight, closed_by, reports_asked}
 use Rattle.escpos_command.specs.declared.answer.Answer.{Answer}
 use Rattle.escpos_command.specs.Answers.{HalfAnswer}
 use Rattle.escpos_host.specs.declared.host.HostEvent.{HostEvent}
 use Rattle.escpos_host.specs.declared.host.HostEvent.TheVariants as heard
 use Rattle.escpos_host.specs.Earlier.{shifted}
-use Rattle.escpos_host.specs.Heard.{EndsLink, Grows, HearsAll, HearsByte, IsHeard, Misfits, Passed, RecordsUpTo, Turns, last_of, taken_at, with_half}
+use Rattle.escpos_host.specs.Heard.{EndsLink, Grows, HearsAll, HearsByte, IsHeard, IsToldLate, Misfits, Passed, RecordsUpTo, Turns, last_of, taken_at, with_half}
 use Rattle.std.proofs.lemmas.Bool.{cases_lt}
 use Rattle.std.proofs.lemmas.List.{get_or-take, length-take-le}
 use Rattle.escpos_link.specs.declared.event.Event.TheVariants as event
@@ -25,14 +26,19 @@ use Rattle.escpos_link.specs.Stands.{Stands}
 use Rattle.escpos_link.specs.Wire.{WireView, heard_from, line_of}
 use Rattle.escpos_link.proofs.AtTheEnd.{heard_on}
 use Rattle.escpos_host.proofs.Earlier.{earlier_hears, earlier_sound, ends_shifted, last_shifted}
-use Rattle.escpos_host.proofs.Recording.{keeps, none_has}
+use Rattle.escpos_host.proofs.Recording.{keeps, none_has, told}
 use Rattle.escpos_link.proofs.Promising.{receipts_join}
 use Rattle.escpos_till.specs.declared.entry.Entry.{Entry}
 use Rattle.escpos_till.specs.declared.machine.Stage.TheVariants as stage
 use Rattle.escpos_till.specs.Book.{IsBookOf}
 use Rattle.escpos_till.specs.declared.book.Book.{Book}
-use Rattle.escpos_till.specs.Entries.{IsLedger, MayFollow, Waits, recorded}
+use Rattle.escpos_till.specs.Entries.{IsLedger, MayFollow, Waits, next_free, recorded}
 use Rattle.escpos_till.specs.Tries.{ClosesTry, HasTry, tries}
+use Rattle.escpos_till.specs.declared.further.Further.{Further}
+use Rattle.escpos_till.specs.declared.machine.Due.{Due}
+use Rattle.escpos_till.specs.declared.machine.TillNote.{TillNote}
+use Rattle.escpos_till.specs.Further.{GoesFurther, IsAfter, IsText}
+use Rattle.escpos_till.proofs.EntryLemmas.{next_after_recorded}
 use Rattle.escpos_till.specs.declared.entry.Entry.TheVariants as entry
 use Rattle.escpos_till.specs.declared.machine.Talk.{Talk}
 use Rattle.escpos_till.specs.declared.machine.Then.TheVariants as then
@@ -41,14 +47,14 @@ use Rattle.escpos_till.specs.Machine.{Came, Drops, GoesOn as MachineGoesOn, Mach
 use Rattle.escpos_till_model.proofs.GoesOn.{answered_on}
 use Rattle.escpos_till_model.proofs.EntryFacts.{zip_length}
 use Rattle.escpos_till_model.proofs.Keeping.{asked_keeps, nothing_before, on_keeps, submitted_keeps}
-use Rattle.escpos_till_model.proofs.LateLemmas.{late_host, late_on, other_mark, which_try}
+use Rattle.escpos_till_model.proofs.LateLemmas.{first_is_least, late_host, late_on, other_mark, which_try}
 use Rattle.escpos_till_model.specs.Kept.{Hand, IsSent, Reserves}
-use Rattle.escpos_till_model.specs.Known.{Accounted, Holds, IsWorld}
+use Rattle.escpos_till_model.specs.Known.{Accounted, Holds, IsToSendNext, IsWorld}
 use Rattle.escpos_till_model.specs.Late.{HasJustBegun, LateAnswers}
 use Rattle.escpos_till_model.specs.Receipts.{IsReceiptOf}
-use Rattle.escpos_till_model.specs.World.{Hears, IsSendable, Wired, World}
+use Rattle.escpos_till_model.specs.World.{Hears, IsCopy, IsSendable, IsSo, Wired, World}
 use Rattle.escpos_till_model.proofs.LinesKept.{LineLaws, Right, goes, same_wire, drops_right}
-use Rattle.escpos_till_model.proofs.WorldCalls.{Parts, gone_account, gone_begun, whole, parts}
+use Rattle.escpos_till_model.proofs.WorldCalls.{Parts, due_receipt, gone_account, gone_begun, whole, parts}
 use Rattle.escpos_till_model.proofs.WorldStore.{talking_book, talking_holds}
 
 -- ## Answers are heard
@@ -98,11 +104,16 @@ sound_recorded h after id number half up sound r = elim r.way [
   })
 ]
 
+sound_told : (h after : HostView) (first : ℕ) (id : List ℕ) → h.half ≡ [] → h.phase ≢ Down → IsSound h → h.phase ≡ Opening first → IsToldLate h first id after → IsSound after
+sound_told h after first id half up sound phase (inl (n, number, same)) =
+    subst IsSound (sym same) (record { quiet = λ down. absurd (up down); few = sound.few; few_left = sound.few_left; half = inl half })
+sound_told h after first id half up sound phase (inr (none, same)) = subst IsSound (sym same) sound
+
 -- After an event no half answer is left, and the host is as sound as before.
 pub sound_turned : (h after : HostView) (a : Answer) (e : HostEvent) → h.half ≡ [] → h.phase ≢ Down → IsSound h → Turns h a e after → (EndsLink e → ⊥) → e ≢ heard.None
     → (after.half ≡ []) × IsSound after × (after.phase ≢ Down)
 sound_turned h after a heard.None half up sound t on some = absurd (some refl)
-sound_turned h after a heard.Opened half up sound (first, id, phase, is, mark, same) on some = (
+sound_turned h after a heard.Opened half up sound (first, n, id, phase, is, mark, same) on some = (
   ap (λ v. v.half) same ∙ half,
   subst IsSound (sym same) (record { quiet = λ down. absurd (let bad : Open [] ≡ Down = down in cc); few = omega arith; few_left = sound.few_left; half = inl half }),
   λ down. let bad : Open [] ≡ Down = ap (λ v. v.phase) (sym same) ∙ down in cc,
@@ -113,8 +124,8 @@ sound_turned h after a (heard.Status byte) half up sound (is, same) on some =
     (ap (λ v. v.half) same ∙ half, subst IsSound (sym same) sound, λ down. up (ap (λ v. v.phase) (sym same) ∙ down))
 sound_turned h after a (heard.Condition block) half up sound (is, same) on some =
     (ap (λ v. v.half) same ∙ half, subst IsSound (sym same) sound, λ down. up (ap (λ v. v.phase) (sym same) ∙ down))
-sound_turned h after a (heard.Late id) half up sound (first, phase, is, other, unleft, same) on some =
-    (ap (λ v. v.half) same ∙ half, subst IsSound (sym same) sound, λ down. up (ap (λ v. v.phase) (sym same) ∙ down))
+sound_turned h after a (heard.Late id) half up sound (first, phase, is, other, unleft, late) on some =
+    let t = told h after first id phase late in (t.keeps.half ∙ half, sound_told h after first id half up sound phase late, t.keeps.up)
 sound_turned h after a (heard.BadAnswer place) half up sound t on some = absurd t
 
 pub sound_half : (h : HostView) (half : List ℕ) → h.phase ≢ Down → IsSound h → (half ≡ []) ⊎ HalfAnswer half → IsSound (with_half h half)
@@ -240,14 +251,14 @@ longer old new before last is =
 
 pub grew_turned : (h after : HostView) (a : Answer) (e : HostEvent) → Turns h a e after → (EndsLink e → ⊥) → Grew e h.records after.records
 grew_turned h after a heard.None (ignores, same) on = ap (λ v. v.records) same
-grew_turned h after a heard.Opened (first, id, phase, is, mark, same) on = ap (λ v. v.records) same
+grew_turned h after a heard.Opened (first, n, id, phase, is, mark, same) on = ap (λ v. v.records) same
 grew_turned h after a (heard.Recorded number) (id, is, r) on = elim r.way [
   | inl (flight, phase, f, same) ↦ longer h.records after.records r.before r.last (ap (λ v. v.records) same)
   | inr (first, phase, other, f, same) ↦ longer h.records after.records r.before r.last (ap (λ v. v.records) same)
 ]
 grew_turned h after a (heard.Status byte) (is, same) on = ap (λ v. v.records) same
 grew_turned h after a (heard.Condition block) (is, same) on = ap (λ v. v.records) same
-grew_turned h after a (heard.Late id) (first, phase, is, other, unleft, same) on = ap (λ v. v.records) same
+grew_turned h after a (heard.Late id) (first, phase, is, other, unleft, late) on = (told h after first id phase late).records
 grew_turned h after a (heard.BadAnswer place) t on = absurd t
 
 pub grew_byte : (h after : HostView) (byte at : ℕ) (e : HostEvent) → HearsByte h byte at e after → (EndsLink e → ⊥) → e ≢ heard.None → Grew e h.records after.records
@@ -268,7 +279,7 @@ StillOpening e h = Unit {0}
 -- A host that is opening its first link has recorded nothing yet, and is still opening it if the event says so.
 pub begun_turned : (h after : HostView) (a : Answer) (e : HostEvent) → Turns h a e after → (EndsLink e → ⊥) → HasJustBegun h → HasJustBegun after × StillOpening e after
 begun_turned h after a heard.None (ignores, same) on begun = (subst HasJustBegun (sym same) begun, tt)
-begun_turned h after a heard.Opened (first, id, phase, is, mark, same) on begun =
+begun_turned h after a heard.Opened (first, n, id, phase, is, mark, same) on begun =
     (λ f opening. absurd (let bad : Open [] ≡ Opening f = ap (λ v. v.phase) (sym same) ∙ opening in cc), tt)
 begun_turned h after a (heard.Recorded number) (id, is, r) on begun = elim r.way [
   | inl (flight, phase, f, same) ↦ (λ first opening. absurd (let bad : Open r.others ≡ Opening first = ap (λ v. v.phase) (sym same) ∙ opening in cc), tt)
@@ -276,8 +287,11 @@ begun_turned h after a (heard.Recorded number) (id, is, r) on begun = elim r.way
 ]
 begun_turned h after a (heard.Status byte) (is, same) on begun = (subst HasJustBegun (sym same) begun, tt)
 begun_turned h after a (heard.Condition block) (is, same) on begun = (subst HasJustBegun (sym same) begun, tt)
-begun_turned h after a (heard.Late id) (first, phase, is, other, unleft, same) on begun =
-    (subst HasJustBegun (sym same) begun, (first, ap (λ v. v.phase) same ∙ phase))
+begun_turned h after a (heard.Late id) (first, phase, is, other, unleft, late) on begun =
+    let t = told h after first id phase late in (
+      λ f opening. let nothing = begun f (sym t.phase ∙ opening) in (t.records ∙ nothing.0, t.left ∙ nothing.1),
+      (first, t.phase ∙ phase),
+    )
 begun_turned h after a (heard.BadAnswer place) t on begun = absurd t
 
 pub begun_byte : (h after : HostView) (byte at : ℕ) (e : HostEvent) → HearsByte h byte at e after → (EndsLink e → ⊥) → e ≢ heard.None → HasJustBegun h → HasJustBegun after × StillOpening e after
@@ -298,7 +312,7 @@ heard_begun h after bytes consumed e (inr (at, half, within, some, count, passed
 -- If the event is an answer to the closing mark of a try of a receipt that waits, that receipt stands after these.
 abbrev pub Shows : List Entry → List (List Command) → WireView → HostEvent → Type 0
 Shows kept receipts w e =
-    (number closing : ℕ) → Waits kept number → HasTry (tries kept) number closing → closing < mark_count → e ≡ heard.Late (mark_of closing)
+    (number closing : ℕ) → Waits kept number → HasTry (tries kept) number closing → closing < mark_count → e ≡ heard.Late (id_of closing)
     → (receipt : List Command) × IsReceiptOf kept number receipt × Stands w.printer.sheet.line_dots (receipts ++ receipt ∷ []) w.printer.sheet.items
 
 -- The account after an event, with what that shows.
@@ -314,6 +328,7 @@ pub record Heard (m after : MachineView) (kept : List Entry) (w wire : WireView)
   pub receipt : held.receipt ≡ talk.receipt
   pub follows : MayFollow kept (entry.Recorded talk.number)
   pub reserved : (receipt : List Command) → talk.receipt ≡ Some receipt → (host.next < held.limit) × IsSendable receipt
+  pub news : (number : ℕ) → talk.recorded ≡ Some number → IsSo kept (note_kind.Recorded number)
   pub sound : IsSound host
   pub up : host.phase ≢ Down
   pub right : Right (line_of (with_earlier earlier host) w)
@@ -329,9 +344,9 @@ abbrev pub Unrecorded : List Entry → List (List Command) → HostView → Type
 Unrecorded kept earlier host = length (earlier ++ host.records) ≡ length (recorded kept)
 
 -- The talk is over.
-pub over : LineLaws → (m after : MachineView) (kept : List Entry) (w wire : WireView) (talk : Talk) (consumed : ℕ) (host : HostView) (e : HostEvent) (why : SendFault) → (x : Heard m after kept w wire talk consumed host e)
-    → Drops host after.host → (n : ℕ) → after.stage ≡ stage.HangingUp (note_kind.Waiting n why) → Parts after kept wire
-over laws m after kept w wire talk consumed host e why x drops n now = record {
+pub over_so : LineLaws → (m after : MachineView) (kept : List Entry) (w wire : WireView) (talk : Talk) (consumed : ℕ) (host : HostView) (e : HostEvent) → (x : Heard m after kept w wire talk consumed host e)
+    → Drops host after.host → (n : TillNote) → IsSo kept n → after.stage ≡ stage.HangingUp n → Parts after kept wire
+over_so laws m after kept w wire talk consumed host e x drops n so now = record {
   earlier = x.earlier;
   sound = x.after_sound;
   right = drops_right laws x.earlier host after.host w wire x.sound drops x.wired x.right;
@@ -339,13 +354,17 @@ over laws m after kept w wire talk consumed host e why x drops n now = record {
   account = gone_account laws x.earlier host after.host kept (Some x.held) w wire x.sound drops x.wired x.right x.so.account;
   begun = gone_begun host after.host drops;
   book = λ live. x.book;
-  holds = subst (λ s. Holds kept None (with_earlier x.earlier after.host) s) (sym now) (refl, tt);
+  holds = subst (λ s. Holds kept None (with_earlier x.earlier after.host) s) (sym now) (refl, so);
 }
+
+pub over : LineLaws → (m after : MachineView) (kept : List Entry) (w wire : WireView) (talk : Talk) (consumed : ℕ) (host : HostView) (e : HostEvent) (why : SendFault) → (x : Heard m after kept w wire talk consumed host e)
+    → Drops host after.host → (n : ℕ) → after.stage ≡ stage.HangingUp (note_kind.Waiting n why) → Parts after kept wire
+over laws m after kept w wire talk consumed host e why x drops n now = over_so laws m after kept w wire talk consumed host e x drops (note_kind.Waiting n why) tt now
 
 -- The talk goes on, with the host as it is.
 pub onward : (m after : MachineView) (kept : List Entry) (w wire : WireView) (talk : Talk) (consumed left : ℕ) (host : HostView) (e : HostEvent) → (x : Heard m after kept w wire talk consumed host e)
-    → Unrecorded kept x.earlier host → after.host ≡ host → (later : Talk) → later.number ≡ talk.number → later.receipt ≡ talk.receipt → after.stage ≡ stage.Talking later → Parts after kept wire
-onward m after kept w wire talk consumed left host e x none same later number receipt now =
+    → Unrecorded kept x.earlier host → after.host ≡ host → (later : Talk) → later.number ≡ talk.number → later.receipt ≡ talk.receipt → later.recorded ≡ talk.recorded → after.stage ≡ stage.Talking later → Parts after kept wire
+onward m after kept w wire talk consumed left host e x none same later number receipt news now =
     let stays : wire ≡ w = same_wire host after.host w wire same x.wired in
     record {
       earlier = x.earlier;
@@ -365,20 +384,21 @@ onward m after kept w wire talk consumed left host e x none same later number re
             subst (λ n. MayFollow kept (entry.Recorded n)) (sym number) x.follows,
             none,
             x.up,
-            λ r is. x.reserved r (sym receipt ∙ is),
+            (λ r is. x.reserved r (sym receipt ∙ is)),
+            λ n is. x.news n (sym news ∙ is),
           ));
     }
 
 -- The same for a talk that differs in what the printer has told.
 pub goes_on_as : LineLaws → (m after : MachineView) (kept : List Entry) (w wire : WireView) (talk later : Talk) (consumed left : ℕ) (host : HostView) (e : HostEvent) → (x : Heard m after kept w wire talk consumed host e)
-    → Unrecorded kept x.earlier host → later.number ≡ talk.number → later.receipt ≡ talk.receipt → MachineGoesOn later left host after.host after.stage → Parts after kept wire
-goes_on_as laws m after kept w wire talk later consumed zero host e x none number receipt so = over laws m after kept w wire talk consumed host e _ x so.0 later.number so.1
-goes_on_as laws m after kept w wire talk later consumed (suc left) host e x none number receipt so =
-    onward m after kept w wire talk consumed (suc left) host e x none so.0 (with_left later (suc left)) number receipt so.1
+    → Unrecorded kept x.earlier host → later.number ≡ talk.number → later.receipt ≡ talk.receipt → later.recorded ≡ talk.recorded → MachineGoesOn later left host after.host after.stage → Parts after kept wire
+goes_on_as laws m after kept w wire talk later consumed zero host e x none number receipt news so = over laws m after kept w wire talk consumed host e _ x so.0 later.number so.1
+goes_on_as laws m after kept w wire talk later consumed (suc left) host e x none number receipt news so =
+    onward m after kept w wire talk consumed (suc left) host e x none so.0 (with_left later (suc left)) number receipt news so.1
 
 pub goes_on_parts : LineLaws → (m after : MachineView) (kept : List Entry) (w wire : WireView) (talk : Talk) (consumed left : ℕ) (host : HostView) (e : HostEvent) → (x : Heard m after kept w wire talk consumed host e)
     → Unrecorded kept x.earlier host → MachineGoesOn talk left host after.host after.stage → Parts after kept wire
-goes_on_parts laws m after kept w wire talk consumed left host e x none so = goes_on_as laws m after kept w wire talk talk consumed left host e x none refl refl so
+goes_on_parts laws m after kept w wire talk consumed left host e x none so = goes_on_as laws m after kept w wire talk talk consumed left host e x none refl refl refl so
 
 -- What was submitted is the try in hand, closed by the last of its numbers.
 own_try : (kept : List Entry) (hand : Hand) (k : ℕ) (number closing : ℕ) → IsLedger kept → (r : Reserves kept hand.number k hand.limit) → k < hand.limit → HasTry (tries kept) number closing
@@ -406,7 +426,8 @@ submitted_late laws kept hand h w receipt flight sound right new_right happened 
     let rs = a.keeps.receipts in
     let sent : IsSent kept hand.number (Some receipt) (a.keeps.answered ++ in_flight h.phase) =
     subst (λ (r : Option (List Command)). IsSent kept hand.number r (a.keeps.answered ++ in_flight h.phase)) has a.keeps.in_hand.sent in
-    let p : InFlight = record { receipt = receipt; mark = mark_of h.next } in
+    let p : InFlight = closed_by receipt h.next in
+    let low : h.next < mark_count = let most = a.keeps.in_hand.reserved.few in omega (arith, within, most) in
     let alone : Open (flight ++ p ∷ []) ≡ Open (p ∷ []) = ap (λ f. Open (f ++ p ∷ [])) (no_flight flight a.keeps.answered (in_flight h.phase) (ap in_flight phase) sent.1) in
     let none : a.keeps.answered ≡ [] = nothing_before a.keeps.answered (in_flight h.phase) sent.1 in
     let records : h.records ≡ rs = a.keeps.records ∙ ap (λ v. rs ++ v) none ∙ append-nil rs in
@@ -415,22 +436,22 @@ submitted_late laws kept hand h w receipt flight sound right new_right happened 
       first = a.late.first;
       promise = λ number closing waits tried few.
           let (other, is, promised) = a.late.promise number closing waits tried few in
-          let stays : mark_of h.next ≢ mark_of closing → (r : List Command) × IsReceiptOf kept number r × Promised rs (record { receipt = r; mark = mark_of closing }) after =
+          let stays : id_of h.next ≢ id_of closing → (r : List Command) × IsReceiptOf kept number r × Promised rs (closed_by r closing) after =
           λ differs. (
             other,
             is,
-            laws.promise.stays (event.Submit receipt) l after note.Done rs (record { receipt = other; mark = mark_of closing }) fits sound right.line happened right.trusted differs promised,
+            laws.promise.stays (event.Submit receipt) l after note.Done rs (closed_by other closing) fits sound right.line happened right.trusted differs promised,
           ) in
           elim (cases_lt closing h.next) [
-            | inl less ↦ stays (other_mark laws h.next closing mark few (λ same. omega (arith, same, less)))
+            | inl less ↦ stays (other_mark laws h.next closing low few (λ same. omega (arith, same, less)))
             | inr more ↦ elim (cases_lt h.next closing) [
-              | inl greater ↦ stays (other_mark laws h.next closing mark few (λ same. omega (arith, same, greater)))
+              | inl greater ↦ stays (other_mark laws h.next closing low few (λ same. omega (arith, same, greater)))
               | inr fewer ↦
                   let same : closing ≡ h.next = omega (arith, more, fewer) in
                   let number_is = own_try kept hand h.next number closing a.keeps.ledger a.keeps.in_hand.reserved within tried same in (
                     receipt,
                     subst (λ n. IsReceiptOf kept n receipt) (sym number_is) sent.0,
-                    subst (λ n. Promised rs (record { receipt = receipt; mark = mark_of n }) after) (sym same) own,
+                    subst (λ n. Promised rs (closed_by receipt n) after) (sym same) own,
                   )
             ]
           ];
@@ -454,7 +475,7 @@ given laws m after kept w wire talk consumed left host e receipt x none has (pha
     let hand : Hand = record { number = x.held.number; receipt = None; limit = x.held.limit } in
     let (within, sendable) = x.reserved receipt has in
     let fits = sendable.fits in
-    let up : after.host.phase ≢ Down = λ down. let bad : Open (record { receipt = receipt; mark = mark_of host.next } ∷ []) ≡ Down = ap (λ v. v.phase) (sym same) ∙ down in cc in
+    let up : after.host.phase ≢ Down = λ down. let bad : Open (closed_by receipt host.next ∷ []) ≡ Down = ap (λ v. v.phase) (sym same) ∙ down in cc in
     let stays : wire ≡ w = x.wired.stays_up x.up up in
     let sound = earlier_sound x.earlier host x.sound in
     let asks : After event.AskReports (line_of before w) note.Done (line_of asked w) = (refl, phase, refl) in
@@ -478,10 +499,10 @@ given laws m after kept w wire talk consumed left host e receipt x none has (pha
       account = subst (λ v. Accounted kept (Some hand) (with_earlier x.earlier after.host) v) (sym stays)
           (subst (λ h. Accounted kept (Some hand) (with_earlier x.earlier h) w) (sym same) account);
       begun = λ first opening.
-          absurd (let bad : Open (record { receipt = receipt; mark = mark_of host.next } ∷ []) ≡ Opening first = ap (λ v. v.phase) (sym same) ∙ opening in cc);
+          absurd (let bad : Open (closed_by receipt host.next ∷ []) ≡ Opening first = ap (λ v. v.phase) (sym same) ∙ opening in cc);
       book = λ live. x.book;
       holds = subst (λ s. Holds kept (Some hand) (with_earlier x.earlier after.host) s) (sym now)
-          (hand, refl, x.number, refl, x.follows, ap (λ h. length (x.earlier ++ h.records)) same ∙ none, up, λ r is. absurd (let bad : None ≡ Some r = is in cc));
+          (hand, refl, x.number, refl, x.follows, ap (λ h. length (x.earlier ++ h.records)) same ∙ none, up, (λ r is. absurd (let bad : None ≡ Some r = is in cc)), x.news);
     }
 
 pub submits_parts : LineLaws → (m after : MachineView) (kept : List Entry) (w wire : WireView) (talk : Talk) (consumed left : ℕ) (host : HostView) (e : HostEvent) (receipt : Option (List Command))
@@ -499,7 +520,7 @@ late_parts : LineLaws → (m after : MachineView) (kept : List Entry) (w wire : 
 late_parts laws m after kept w wire talk consumed left host id x none (closing, few, mark, has) same now =
     let a = x.so.account in
     let rs = a.keeps.receipts in
-    let (receipt, is, stand) = x.so.shows talk.number closing x.follows.0 has few (ap heard.Late (sym mark)) in
+    let (receipt, is, stand) = x.so.shows talk.number closing x.follows.0 has few (ap heard.Late (sym mark ∙ sym (laws.first_round closing few))) in
     let (first, opening) = x.opening in
     let begun = x.begun first opening in
     let nothing : host.records ≡ [] = begun.0 in
@@ -508,7 +529,7 @@ late_parts laws m after kept w wire talk consumed left host id x none (closing, 
     let l : LineView = line_of (with_earlier x.earlier host) w in
     let right : Right (line_of (with_earlier earlier host) w) = record {
       line = record { down = x.right.line.down; alone = x.right.line.alone; quiet = x.right.line.quiet; whole = x.right.line.whole; fitting = x.right.line.fitting };
-      trusted = subst (λ left. IsTrusted (line_of (record { phase = host.phase; out = host.out; half = host.half; next = host.next; records = earlier ++ host.records; left = left }) w))
+      trusted = subst (λ left. IsTrusted (line_of (record { phase = host.phase; out = host.out; half = host.half; next = host.next; heard = host.heard; records = earlier ++ host.records; left = left }) w))
           (sym begun.1)
           (laws.promise.recorded l (earlier ++ host.records) x.right.trusted (ap flight_of opening)
           (subst (λ v. Stands w.printer.sheet.line_dots v w.printer.sheet.items) (sym all) stand));
@@ -548,25 +569,12 @@ late_parts laws m after kept w wire talk consumed left host id x none (closing, 
           (x.follows, (hand, refl, x.number, refl, one_more, x.up)));
     }
 
-pub turned_parts : LineLaws → (m after : MachineView) (kept : List Entry) (w wire : WireView) (talk : Talk) (consumed left : ℕ) (host : HostView) (e : HostEvent) (b : Book)
-    (old : List (List Command)) → b.tries.items ≡ tries kept
-    → (x : Heard m after kept w wire talk consumed host e) → length (x.earlier ++ old) ≡ length (recorded kept) → Grew e old host.records → (EndsLink e → ⊥)
-    → MachineTurns b e talk left host after.host after.stage → Parts after kept wire
-turned_parts laws m after kept w wire talk consumed left host heard.None b old book x count more on so =
-    goes_on_parts laws m after kept w wire talk consumed left host heard.None x (ap (λ rs. length (x.earlier ++ rs)) more ∙ count) so
-turned_parts laws m after kept w wire talk consumed left host (heard.Status byte) b old book x count more on so =
-    goes_on_parts laws m after kept w wire talk consumed left host (heard.Status byte) x (ap (λ rs. length (x.earlier ++ rs)) more ∙ count) so
-turned_parts laws m after kept w wire talk consumed left host (heard.Condition block) b old book x count more on (p, told, so) =
-    goes_on_as laws m after kept w wire talk (with_pause talk p) consumed left host (heard.Condition block) x (ap (λ rs. length (x.earlier ++ rs)) more ∙ count) refl refl so
-turned_parts laws m after kept w wire talk consumed left host (heard.Late id) b old book x count more on (inl (closes, same, now)) =
-    late_parts laws m after kept w wire talk consumed left host id x (ap (λ rs. length (x.earlier ++ rs)) more ∙ count) (subst (λ ts. ClosesTry ts talk.number id) book closes) same now
-turned_parts laws m after kept w wire talk consumed left host (heard.Late id) b old book x count more on (inr (other, so)) =
-    goes_on_parts laws m after kept w wire talk consumed left host (heard.Late id) x (ap (λ rs. length (x.earlier ++ rs)) more ∙ count) so
-turned_parts laws m after kept w wire talk consumed left host heard.Opened b old book x count more on so =
-    submits_parts laws m after kept w wire talk consumed left host heard.Opened talk.receipt x (ap (λ rs. length (x.earlier ++ rs)) more ∙ count) refl so
-turned_parts laws m after kept w wire talk consumed left host (heard.Recorded place) b old book x count more on (same, now) =
+-- The receipt in flight is answered: that is to be kept, and perhaps with it that the next one is tried.
+answered_parts : (m after : MachineView) (kept : List Entry) (w wire : WireView) (talk : Talk) (consumed : ℕ) (host : HostView) (place : ℕ)
+    → (x : Heard m after kept w wire talk consumed host (heard.Recorded place)) → after.host ≡ host
+    → Holds kept (Some x.held) (with_earlier x.earlier host) after.stage → Parts after kept wire
+answered_parts m after kept w wire talk consumed host place x same holds =
     let stays : wire ≡ w = same_wire host after.host w wire same x.wired in
-    let one_more : length (recorded kept) < length (x.earlier ++ host.records) = omega (arith, count, more, length-append x.earlier old, length-append x.earlier host.records) in
     record {
       earlier = x.earlier;
       sound = x.after_sound;
@@ -576,17 +584,74 @@ turned_parts laws m after kept w wire talk consumed left host (heard.Recorded pl
           (subst (λ h. Accounted kept (Some x.held) (with_earlier x.earlier h) w) (sym same) x.so.account);
       begun = subst HasJustBegun (sym same) x.begun;
       book = λ live. x.book;
-      holds = subst (λ s. Holds kept (Some x.held) (with_earlier x.earlier after.host) s) (sym now)
-          (subst (λ h. Holds kept (Some x.held) (with_earlier x.earlier h) (stage.Keeping (entry.Recorded talk.number) (then.Recorded talk.number))) (sym same)
-          (x.follows, (x.held, refl, x.number, refl, one_more, x.up)));
+      holds = subst (λ h. Holds kept (Some x.held) (with_earlier x.earlier h) after.stage) (sym same) holds;
     }
+
+text_is : (copy : Option (List ℕ)) → IsText copy → IsCopy copy
+text_is None text = tt
+text_is (Some copy) text = text
+
+-- What may be sent over the same link.
+pub to_send_next : LineLaws → (kept : List Entry) (b : Book) (number : ℕ) (further : Option Further) (earlier : List (List Command)) (host : HostView) (due : Due) → IsBookOf b kept
+    → MayFollow kept (entry.Recorded number) → IsAfter b number further host due
+    → IsToSendNext (kept ++ entry.Recorded number ∷ []) (with_earlier earlier host) due (entry.Tried due.number (b.next + 1))
+to_send_next laws kept b number further earlier host due book follows after =
+    let more : List Entry = kept ++ entry.Recorded number ∷ [] in
+    let is = after.next kept book follows in
+    let waits = after.waits kept book follows in
+    let free : next_free more ≡ b.next = next_after_recorded kept number ∙ sym book.next in
+    record {
+      receipt = due_receipt more after.how.copy due.number due.receipt (text_is after.how.copy after.text) is;
+      fits = record { fits = laws.fitting due.receipt after.whole after.commands; no_real_time = after.whole.no_real_time };
+      tried_is = ap (λ n. entry.Tried due.number (n + 1)) (sym free);
+      follows = (waits, omega (arith, free));
+      first = first_is_least more due.number is.tried is.content is.first;
+      within = omega (arith, free, after.within);
+      link = after.link;
+      quiet = after.quiet;
+      marks = after.marks ∙ sym free;
+    }
+
+recorded_parts : LineLaws → (m after : MachineView) (kept : List Entry) (w wire : WireView) (talk : Talk) (consumed : ℕ) (host : HostView) (place : ℕ) (b : Book)
+    (old : List (List Command)) → IsBookOf b kept → (x : Heard m after kept w wire talk consumed host (heard.Recorded place)) → length (x.earlier ++ old) ≡ length (recorded kept)
+    → length old < length host.records → after.host ≡ host → (after.stage ≡ printed talk.number) ⊎ GoesFurther b talk.number talk.further host after.stage → Parts after kept wire
+recorded_parts laws m after kept w wire talk consumed host place b old book x count more same goes =
+    let one_more : length (recorded kept) < length (x.earlier ++ host.records) = omega (arith, count, more, length-append x.earlier old, length-append x.earlier host.records) in
+    elim goes [
+      | inl now ↦
+          answered_parts m after kept w wire talk consumed host place x same
+          (subst (λ s. Holds kept (Some x.held) (with_earlier x.earlier host) s) (sym now) (x.follows, (x.held, refl, x.number, refl, one_more, x.up)))
+      | inr on ↦
+          answered_parts m after kept w wire talk consumed host place x same
+          (subst (λ s. Holds kept (Some x.held) (with_earlier x.earlier host) s) (sym on.stage_is)
+          (x.follows, ((x.held, refl, x.number, refl, one_more, x.up), to_send_next laws kept b talk.number talk.further x.earlier host on.due book x.follows on.after)))
+    ]
+
+pub turned_parts : LineLaws → (m after : MachineView) (kept : List Entry) (w wire : WireView) (talk : Talk) (consumed left : ℕ) (host : HostView) (e : HostEvent) (b : Book)
+    (old : List (List Command)) → IsBookOf b kept
+    → (x : Heard m after kept w wire talk consumed host e) → length (x.earlier ++ old) ≡ length (recorded kept) → Grew e old host.records → (EndsLink e → ⊥)
+    → MachineTurns b e talk left host after.host after.stage → Parts after kept wire
+turned_parts laws m after kept w wire talk consumed left host heard.None b old book x count more on so =
+    goes_on_parts laws m after kept w wire talk consumed left host heard.None x (ap (λ rs. length (x.earlier ++ rs)) more ∙ count) so
+turned_parts laws m after kept w wire talk consumed left host (heard.Status byte) b old book x count more on so =
+    goes_on_parts laws m after kept w wire talk consumed left host (heard.Status byte) x (ap (λ rs. length (x.earlier ++ rs)) more ∙ count) so
+turned_parts laws m after kept w wire talk consumed left host (heard.Condition block) b old book x count more on (p, told, so) =
+    goes_on_as laws m after kept w wire talk (with_pause talk p) consumed left host (heard.Condition block) x (ap (λ rs. length (x.earlier ++ rs)) more ∙ count) refl refl refl so
+turned_parts laws m after kept w wire talk consumed left host (heard.Late id) b old book x count more on (inl (closes, same, now)) =
+    late_parts laws m after kept w wire talk consumed left host id x (ap (λ rs. length (x.earlier ++ rs)) more ∙ count) (subst (λ ts. ClosesTry ts talk.number id) book.tries closes) same now
+turned_parts laws m after kept w wire talk consumed left host (heard.Late id) b old book x count more on (inr (other, so)) =
+    goes_on_parts laws m after kept w wire talk consumed left host (heard.Late id) x (ap (λ rs. length (x.earlier ++ rs)) more ∙ count) so
+turned_parts laws m after kept w wire talk consumed left host heard.Opened b old book x count more on so =
+    submits_parts laws m after kept w wire talk consumed left host heard.Opened talk.receipt x (ap (λ rs. length (x.earlier ++ rs)) more ∙ count) refl so
+turned_parts laws m after kept w wire talk consumed left host (heard.Recorded place) b old book x count more on (same, goes) =
+    recorded_parts laws m after kept w wire talk consumed host place b old book x count more same goes
 turned_parts laws m after kept w wire talk consumed left host (heard.BadAnswer place) b old book x count more on so = absurd (on tt)
 
 pub hears : LineLaws → (w new : World) (most : ℕ) → IsWorld w → Hears w most new → IsWorld new
 hears laws w new most known v =
     let p = parts w v.m v.was known in
-    let (held, hand_is, number, receipt, follows, records, up, reserved) = talking_holds v.m w.kept w.wire v.talk v.talks p in
-    let (e, host, hears_one, turns, book) = subst (λ s. Came s (take most w.wire.coming) v.consumed v.m v.after) v.talks v.came in
+    let (held, hand_is, number, receipt, follows, records, up, reserved, news) = talking_holds v.m w.kept w.wire v.talk v.talks p in
+    let (e, host, hears_one, turns, book, all) = subst (λ s. Came s (take most w.wire.coming) v.consumed v.m v.after) v.talks v.came in
     let is_heard = hears_one.1 up in
     let on = in_turn laws p.earlier v.m.host host w.wire most v.consumed e up p.right is_heard in
     let one = heard_one v.m.host host w.wire.coming most v.consumed e up p.sound is_heard on in
@@ -607,12 +672,12 @@ hears laws w new most known v =
       };
       shows = λ number closing waits has few late.
           let (receipt, is, promised) = p.account.late.promise number closing waits has few in
-          let told : note.Heard v.consumed (last_of (map (shifted (length p.earlier)) one.events)) ≡ note.Heard v.consumed (heard.Late (mark_of closing)) =
+          let told : note.Heard v.consumed (last_of (map (shifted (length p.earlier)) one.events)) ≡ note.Heard v.consumed (heard.Late (id_of closing)) =
           ap (note.Heard v.consumed) (last ∙ ap (shifted (length p.earlier)) late) in (
             receipt,
             is,
-            laws.promise.late before (line_of (with_earlier p.earlier host) middle) v.consumed v.consumed (mark_of closing) p.account.keeps.receipts
-                (record { receipt = receipt; mark = mark_of closing }) p.right.line p.right.trusted
+            laws.promise.late before (line_of (with_earlier p.earlier host) middle) v.consumed v.consumed (id_of closing) p.account.keeps.receipts
+                (closed_by receipt closing) p.right.line p.right.trusted
                 (subst (λ n. After (event.Answer v.consumed) before n (line_of (with_earlier p.earlier host) middle)) told happened) refl promised,
           );
     } in
@@ -624,6 +689,7 @@ hears laws w new most known v =
       receipt = receipt;
       follows = follows;
       reserved = λ r is. let had = reserved r is in (omega (arith, went.next, had.0), had.1);
+      news = news;
       sound = one.sound;
       up = one.up;
       right = right;
@@ -641,5 +707,5 @@ hears laws w new most known v =
     } in
     subst IsWorld (sym v.is) (whole v.after w.kept v.wire w.told known.told
     (turned_parts laws v.m v.after w.kept middle v.wire v.talk v.consumed (v.talk.left - v.consumed) host e v.m.book v.m.host.records
-    (talking_book v.m w.kept w.wire v.talk v.talks p).tries x records
+    (talking_book v.m w.kept w.wire v.talk v.talks p) x records
     (grew v.m.host host (take most w.wire.coming) v.consumed e is_heard on) on turns))

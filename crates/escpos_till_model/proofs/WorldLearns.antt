@@ -21,12 +21,12 @@ use Rattle.escpos_till.specs.declared.store.StoreFault.{StoreFault}
 use Rattle.escpos_till.specs.Book.{IsBookOf}
 use Rattle.escpos_till.specs.Delivers.{marks_taken}
 use Rattle.escpos_till.specs.Entries.{MayFollow, Waits, cancel_place_of, cancelled, next_free, place_in, place_of, record_of, state_by, state_of, taken, times_tried}
-use Rattle.escpos_till.specs.Learning.{FailsToLearn, FollowAll, IsOthers, LearnsAll, Revises}
-use Rattle.escpos_till.specs.Machine.{Drops, MachineView}
+use Rattle.escpos_till.specs.Learning.{FailsToLearn, FollowAll, IsOthers, LearnsAll, Revises, WaitsIn}
+use Rattle.escpos_till.specs.Machine.{Drops, MachineView, printed}
 use Rattle.escpos_till.specs.Tries.{tries}
 use Rattle.escpos_till.proofs.LearningLemmas.{others_recorded, others_tried}
 use Rattle.escpos_till_model.specs.Kept.{Hand}
-use Rattle.escpos_till_model.specs.Known.{Accounted, BookMayLag, Holds, IsToKeep, IsToSend, IsWorld}
+use Rattle.escpos_till_model.specs.Known.{Accounted, BookMayLag, Holds, IsToKeep, IsToRecord, IsToSend, IsWorld}
 use Rattle.escpos_till_model.specs.Late.{HasJustBegun}
 use Rattle.escpos_till_model.specs.Receipts.{Among}
 use Rattle.escpos_till_model.specs.World.{IsSo, Learns, Wired, World}
@@ -34,7 +34,8 @@ use Rattle.escpos_till_model.proofs.Accounts.{place_given}
 use Rattle.escpos_till_model.proofs.EntryFacts.{cancelled_append, receipt_of_grows}
 use Rattle.escpos_till_model.proofs.LinesKept.{LineLaws, Right, same_wire, drops_right}
 use Rattle.escpos_till_model.proofs.WorldCalls.{AreSo, Parts, gone_account, gone_begun, parts, whole}
-use Rattle.escpos_till_model.proofs.WorldStore.{lost_holds, lost_lags, more_account, so_later}
+use Rattle.escpos_till_model.proofs.WorldStore.{lost_holds, lost_lags, more_account, so_grows, so_later}
+use Rattle.escpos_till_model.proofs.WorldHears.{to_send_next}
 
 -- ## More entries
 
@@ -66,6 +67,11 @@ pub so_with_others : (kept others : List Entry) (notes : List TillNote) → Foll
 so_with_others kept [] notes follow so = subst (λ es. AreSo es notes) (sym (append-nil kept)) so
 so_with_others kept (e ∷ others) notes (follows, follow) so =
     subst (λ es. AreSo es notes) (append_assoc kept (e ∷ []) others) (so_with_others (kept ++ e ∷ []) others notes follow (so_later kept e notes follows so))
+
+one_with_others : (kept others : List Entry) (n : TillNote) → FollowAll kept others → IsSo kept n → IsSo (kept ++ others) n
+one_with_others kept [] n follow so = subst (λ es. IsSo es n) (sym (append-nil kept)) so
+one_with_others kept (e ∷ others) n (follows, follow) so =
+    subst (λ es. IsSo es n) (append_assoc kept (e ∷ []) others) (one_with_others (kept ++ e ∷ []) others n follow (so_grows kept e n follows so))
 
 -- ## What waits
 
@@ -160,6 +166,18 @@ stays_on laws m after kept others w new p each follow same sound wired book hold
       holds = subst (λ h. Holds (kept ++ others) p.hand (with_earlier p.earlier h) after.stage) (sym same) holds;
     }
 
+-- What is heard of a receipt is still to be kept.
+still_records : LineLaws → (m after : MachineView) (kept others : List Entry) (w new : WireView) (e : Entry) (n : ℕ) → (p : Parts m kept w) → AllByRecursion IsOthers others → FollowAll kept others
+    → MayFollow kept e → IsToRecord kept p.hand (with_earlier p.earlier m.host) e n → IsBookOf after.book (kept ++ others) → WaitsIn after.book n → after.host ≡ m.host → after.stage ≡ printed n
+    → IsSound after.host → Wired m.host after.host w new → Parts after (kept ++ others) new
+still_records laws m after kept others w new e n p each follow follows (held, hand_is, number, is, fewer, up) book waits same now sound wired =
+    let more : List Entry = kept ++ others in
+    let before : MayFollow kept (entry.Recorded n) = subst (MayFollow kept) is follows in
+    let tried : 0 < times_tried more n = omega (arith, others_tried kept others n each, before.1) in
+    let counts = ap length (others_recorded kept others each) in
+    stays_on laws m after kept others w new p each follow same sound wired book
+    (subst (λ s. Holds more p.hand (with_earlier p.earlier m.host) s) (sym now) ((waits more book, tried), (held, hand_is, number, refl, omega (arith, fewer, counts), up)))
+
 learned_parts : LineLaws → (m after : MachineView) (kept others : List Entry) (w new : WireView) (e : Entry) (next : Then) → (p : Parts m kept w) → AllByRecursion IsOthers others → FollowAll kept others
     → MayFollow kept e → IsToKeep kept p.hand (with_earlier p.earlier m.host) e next → IsBookOf after.book (kept ++ others) → Revises next after.book m.host after.host after.stage → IsSound after.host
     → Wired m.host after.host w new → Parts after (kept ++ others) new
@@ -172,22 +190,36 @@ learned_parts laws m after kept others w new e (then.Send due) p each follow fol
     let now_so : after.stage ≡ stage.Keeping tried (then.Send due) = now ∙ ap (λ n. stage.Keeping (entry.Tried due.number (n + marks_taken due.openings)) (then.Send due)) number in
     stays_on laws m after kept others w new p each follow same sound wired book
     (subst (λ s. Holds more p.hand (with_earlier p.earlier m.host) s) (sym now_so) (still.follows, (none, still, refl)))
-learned_parts laws m after kept others w new e (then.Send due) p each follow follows (none, send, is) book (inr (inl (few, drops, now))) sound wired =
+learned_parts laws m after kept others w new e (then.Send due) p each follow follows (none, send, is) book (inr (inl (waits, few, drops, now))) sound wired =
     gives_up laws m after kept others w new p each follow drops sound wired (λ live. book)
     (subst (λ s. Holds (kept ++ others) None (with_earlier p.earlier after.host) s) (sym now) (refl, tt))
 learned_parts laws m after kept others w new e (then.Send due) p each follow follows (none, send, is) book (inr (inr (tried, cancelled, drops, now))) sound wired =
     gives_up laws m after kept others w new p each follow drops sound wired (λ live. book)
     (subst (λ s. Holds (kept ++ others) None (with_earlier p.earlier after.host) s) (sym now) (refl, cancelled_so (kept ++ others) due.number tried (cancelled (kept ++ others) book)))
-learned_parts laws m after kept others w new e (then.Recorded n) p each follow follows (held, hand_is, number, is, fewer, up) book (inl (waits, same, now)) sound wired =
-    let more : List Entry = kept ++ others in
-    let before : MayFollow kept (entry.Recorded n) = subst (MayFollow kept) is follows in
-    let tried : 0 < times_tried more n = omega (arith, others_tried kept others n each, before.1) in
-    let counts = ap length (others_recorded kept others each) in
-    stays_on laws m after kept others w new p each follow same sound wired book
-    (subst (λ s. Holds more p.hand (with_earlier p.earlier m.host) s) (sym now) ((waits more book, tried), (held, hand_is, number, refl, omega (arith, fewer, counts), up)))
+learned_parts laws m after kept others w new e (then.Recorded n) p each follow follows to_record book (inl (waits, same, now)) sound wired =
+    still_records laws m after kept others w new e n p each follow follows to_record book waits same now sound wired
 learned_parts laws m after kept others w new e (then.Recorded n) p each follow follows to_keep book (inr (tried, cancelled, drops, now)) sound wired =
     gives_up laws m after kept others w new p each follow drops sound wired (λ live. book)
     (subst (λ s. Holds (kept ++ others) None (with_earlier p.earlier after.host) s) (sym now) (refl, cancelled_so (kept ++ others) n tried (cancelled (kept ++ others) book)))
+learned_parts laws m after kept others w new e (then.GoOn n tried due) p each follow follows (to_record, send) book (inl (waits, same, inl now)) sound wired =
+    still_records laws m after kept others w new e n p each follow follows to_record book waits same now sound wired
+learned_parts laws m after kept others w new e (then.GoOn n tried due) p each follow follows ((held, hand_is, number, is, fewer, up), send) book (inl (waits, same, inr goes)) sound wired =
+    let more : List Entry = kept ++ others in
+    let before : MayFollow kept (entry.Recorded n) = subst (MayFollow kept) is follows in
+    let times : 0 < times_tried more n = omega (arith, others_tried kept others n each, before.1) in
+    let counts = ap length (others_recorded kept others each) in
+    let may : MayFollow more (entry.Recorded n) = (waits more book, times) in
+    stays_on laws m after kept others w new p each follow same sound wired book
+    (subst (λ s. Holds more p.hand (with_earlier p.earlier m.host) s) (sym goes.stage_is) (
+      may,
+      ((held, hand_is, number, refl, omega (arith, fewer, counts), up), to_send_next laws more after.book n due.further p.earlier m.host goes.due book may goes.after),
+    ))
+learned_parts laws m after kept others w new e (then.GoOn n tried due) p each follow follows to_keep book (inr (times, cancelled, drops, now)) sound wired =
+    gives_up laws m after kept others w new p each follow drops sound wired (λ live. book)
+    (subst (λ s. Holds (kept ++ others) None (with_earlier p.earlier after.host) s) (sym now) (refl, cancelled_so (kept ++ others) n times (cancelled (kept ++ others) book)))
+learned_parts laws m after kept others w new e (then.SendNext n due) p each follow follows (held, hand_is, all, send, so) book (drops, now) sound wired =
+    gives_up laws m after kept others w new p each follow drops sound wired (λ live. book)
+    (subst (λ s. Holds (kept ++ others) None (with_earlier p.earlier after.host) s) (sym now) (refl, one_with_others kept others (note.Recorded n) follow so))
 learned_parts laws m after kept others w new e then.Queued p each follow follows to_keep book none sound wired = absurd none
 learned_parts laws m after kept others w new e (then.Take content) p each follow follows to_keep book none sound wired = absurd none
 learned_parts laws m after kept others w new e then.Raised p each follow follows to_keep book none sound wired = absurd none

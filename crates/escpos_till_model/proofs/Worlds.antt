@@ -9,8 +9,8 @@ use Rattle.escpos_link.specs.Resumed.{resumed, resumed_host}
 use Rattle.escpos_link.specs.Trusted.{IsTrusted}
 use Rattle.escpos_link.specs.Wire.{given_up, line_of, wire_of}
 use Rattle.escpos_link.specs.Stands.{Stands}
-use Rattle.escpos_link.proofs.Standing.{stands_front}
 use Rattle.escpos_link.proofs.Happening.{resumed_kept}
+use Rattle.escpos_link.proofs.Standing.{stands_front}
 use Rattle.escpos_till.specs.declared.entry.Entry.{Entry}
 use Rattle.escpos_till.specs.Entries.{IsLedger, next_free, recorded}
 use Rattle.escpos_till.specs.declared.entry.Entry.TheVariants as entry
@@ -28,7 +28,9 @@ use Rattle.escpos_till_model.proofs.LinesKept.{LineLaws, Right, none_given_up}
 use Rattle.escpos_till_model.proofs.EntryFacts.{among_nothing, zip_length}
 use Rattle.escpos_till_model.proofs.WorldCalls.{cancels, connected_world, delivers, ended_world, hung_world, missed_world, paused_world, queued, raised, refused, told_world}
 use Rattle.escpos_till_model.proofs.WorldLearns.{learned, not_learned}
-use Rattle.escpos_till_model.proofs.WorldStore.{started, on_wire, idled, crashed, puts, breaks, failed_with, failed_without, fresh_begun, fresh_right, fresh_sound, kept_world}
+use Rattle.escpos_till_model.proofs.Keeping.{anew}
+use Rattle.escpos_till_model.proofs.WorldKeeps.{fresh_sound, kept_world}
+use Rattle.escpos_till_model.proofs.WorldStore.{anew_right, started, on_wire, idled, crashed, puts, breaks, failed_with, failed_with_both, failed_without, fresh_begun, fresh_right}
 use Rattle.escpos_till_model.proofs.WorldHears.{hears}
 
 -- ## Whatever happens
@@ -38,10 +40,11 @@ whatever laws w new Start known happened = started laws w new known happened
 whatever laws w new (Queue content key) known happened = queued w new content key known happened
 whatever laws w new (Raise first) known happened = raised w new first known happened
 whatever laws w new (Cancel number) known happened = cancels w new number known happened
-whatever laws w new (Deliver openings most copy) known happened = delivers w new openings most copy known happened.0 happened.1
+whatever laws w new (Deliver openings most copy further) known happened = delivers w new openings most copy further known happened.0 happened.1
 whatever laws w new Refuse known happened = refused w new known happened
 whatever laws w new Keep known happened = kept_world laws w new known happened
 whatever laws w new (FailWith why) known happened = failed_with laws w new why known happened
+whatever laws w new (event.FailWithBoth why) known happened = failed_with_both laws w new why known happened
 whatever laws w new (FailWithout why) known happened = failed_without laws w new why known happened
 whatever laws w new (event.Learn others) known happened = learned laws w new others known happened
 whatever laws w new (event.FailLearning others why) known happened = not_learned laws w new others why known happened
@@ -52,7 +55,7 @@ whatever laws w new (Break taken count why) known happened = breaks laws w new t
 whatever laws w new (Hear most) known happened = hears laws w new most known happened
 whatever laws w new (End why) known happened = ended_world laws w new why known happened
 whatever laws w new HangUp known happened = hung_world w new known happened
-whatever laws w new event.Pause known happened = paused_world w new known happened
+whatever laws w new event.News known happened = paused_world w new known happened
 whatever laws w new Tell known happened = told_world w new known happened
 whatever laws w new (OnWire e) known happened = on_wire laws w new e known happened
 whatever laws w new Idle known happened = idled laws w new known happened
@@ -82,10 +85,11 @@ entries_stay w new Start happened = same_entries w.kept new.kept (ap (λ v. v.ke
 entries_stay w new (Queue content key) happened = same_entries w.kept new.kept (ap (λ v. v.kept) happened.is)
 entries_stay w new (Raise first) happened = same_entries w.kept new.kept (ap (λ v. v.kept) happened.is)
 entries_stay w new (Cancel number) happened = same_entries w.kept new.kept (ap (λ v. v.kept) happened.is)
-entries_stay w new (Deliver openings most copy) happened = same_entries w.kept new.kept (ap (λ v. v.kept) happened.1.is)
+entries_stay w new (Deliver openings most copy further) happened = same_entries w.kept new.kept (ap (λ v. v.kept) happened.1.is)
 entries_stay w new Refuse happened = same_entries w.kept new.kept (ap (λ v. v.kept) happened.is)
 entries_stay w new Keep happened = (happened.entry ∷ [], ap (λ v. v.kept) happened.moves.is)
 entries_stay w new (FailWith why) happened = (happened.entry ∷ [], ap (λ v. v.kept) happened.moves.is)
+entries_stay w new (event.FailWithBoth why) happened = (happened.entry ∷ happened.second ∷ [], ap (λ v. v.kept) happened.moves.is)
 entries_stay w new (event.Learn others) happened = (others, ap (λ v. v.kept) happened.moves.is)
 entries_stay w new (event.FailLearning others why) happened = (others, ap (λ v. v.kept) happened.moves.is)
 entries_stay w new (FailWithout why) happened = same_entries w.kept new.kept (ap (λ v. v.kept) happened.moves.is)
@@ -96,7 +100,7 @@ entries_stay w new (Break taken count why) happened = same_entries w.kept new.ke
 entries_stay w new (Hear most) happened = same_entries w.kept new.kept (ap (λ v. v.kept) happened.is)
 entries_stay w new (End why) happened = same_entries w.kept new.kept (ap (λ v. v.kept) happened.is)
 entries_stay w new HangUp happened = same_entries w.kept new.kept (ap (λ v. v.kept) happened.is)
-entries_stay w new event.Pause happened = same_entries w.kept new.kept (ap (λ v. v.kept) happened.is)
+entries_stay w new event.News happened = same_entries w.kept new.kept (ap (λ v. v.kept) happened.is)
 entries_stay w new Tell happened = same_entries w.kept new.kept (ap (λ v. v.kept) happened.moves.is)
 entries_stay w new (OnWire e) happened = same_entries w.kept new.kept (ap (λ v. v.kept) happened.is)
 entries_stay w new Idle happened = same_entries w.kept new.kept (ap (λ v. v.kept) happened.is)
@@ -120,12 +124,10 @@ begun laws w b =
     let same : count ≡ length records = zip_length (IsReceiptOf w.kept) (recorded w.kept) records b.receipts in
     let within : length records ≤ length records = omega arith in
     let all : take count records ≡ records ++ [] = ap (λ n. take n records) same ∙ take_all (length records) records within ∙ sym (append-nil records) in
-    let host : resumed_host b.line.host f count ≡ with_earlier records (fresh f) =
-    ap (λ rs. record { phase = Down; out = []; half = []; next = f; records = rs; left = [] }) all in
-    let left : Right (line_of (resumed_host b.line.host f count) (given_up (wire_of b.line))) = record {
-      line = resumed_kept b.line f count b.is_line;
-      trusted = (laws.trust.resumes b.line f count b.next b.trusted).0;
-    } in
+    let host : anew b.line.host f count ≡ with_earlier records (fresh f) =
+    ap (λ rs. record { phase = Down; out = []; half = []; next = f; heard = 0; records = rs; left = [] }) all in
+    let left : Right (line_of (anew b.line.host f count) (given_up (wire_of b.line))) =
+    anew_right laws b.line f count b.next (record { line = b.is_line; trusted = b.trusted }) in
     let right : Right (line_of (with_earlier records (fresh f)) w.wire) =
     subst (λ v. Right (line_of (with_earlier records (fresh f)) v)) (sym b.wire_is) (subst (λ h. Right (line_of h (given_up (wire_of b.line)))) host left) in
     record {

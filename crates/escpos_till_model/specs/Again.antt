@@ -37,6 +37,7 @@ IsLostFirst (event.Keep ∷ es) = ⊥
 IsLostFirst (event.Crash ∷ es) = Unit {0}
 IsLostFirst (event.FailWith why ∷ es) = Unit {0}
 IsLostFirst (event.FailWithout why ∷ es) = Unit {0}
+IsLostFirst (event.FailWithBoth why ∷ es) = Unit {0}
 IsLostFirst (event.FailLearning others why ∷ es) = Unit {0}
 IsLostFirst (e ∷ es) = IsLostFirst es
 

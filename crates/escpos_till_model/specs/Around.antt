@@ -12,7 +12,8 @@ use Rattle.escpos_till.specs.declared.machine.Stage.{Stage}
 use Rattle.escpos_till.specs.declared.machine.Stage.TheVariants as stage
 use Rattle.escpos_till.specs.declared.machine.Then.TheVariants as then
 use Rattle.escpos_till.specs.declared.machine.TillNote.{TillNote}
-use Rattle.escpos_till.specs.Driver.{Breaks, Deed, Ends, Gives, HangsUp, Keeps, Learns, Links, Loses, Misses, Pauses, Puts, Tells}
+use Rattle.escpos_till.specs.Driver.{Breaks, Confirms, Deed, Ends, Gives, HangsUp, Keeps, Learns, Links, Loses, Misses, Pauses, Puts, Tells}
+use Rattle.escpos_till.specs.Appending.{added}
 use Rattle.escpos_till.specs.Learning.{AreOthers}
 use Rattle.escpos_till.specs.Machine.{MachineView}
 use Rattle.escpos_till_model.specs.World.{Runs, World, is_printer_event}
@@ -34,8 +35,8 @@ GoesOnBy w (e ∷ es) after = (mid : WireView) × (effect : Note) × (is_printer
 -- What each deed does, on a wire that neither changes bytes nor loses any in the middle, and with a store that keeps what it has kept. A link
 -- that is missed may have been there for the printer. Where the till is switched off within an append or a put, that is `Loses` or `Breaks`.
 abbrev pub Does : Around → Deed → Around → Type 0
-Does a (Keeps e) new = new ≡ around (a.kept ++ e ∷ []) a.wire a.told
-Does a (Loses e why) new = (new ≡ a) ⊎ (new ≡ around (a.kept ++ e ∷ []) a.wire a.told)
+Does a (Keeps e and_then) new = new ≡ around (a.kept ++ added e and_then) a.wire a.told
+Does a (Loses e and_then why) new = (new ≡ a) ⊎ (new ≡ around (a.kept ++ added e and_then) a.wire a.told)
 Does a (Learns others) new = AreOthers a.kept others × (new ≡ around (a.kept ++ others) a.wire a.told)
 Does a Links new = new ≡ around a.kept (with_link a.wire) a.told
 Does a Misses new = (new ≡ a) ⊎ (new ≡ around a.kept (given_up (with_link a.wire)) a.told)
@@ -45,6 +46,7 @@ Does a (Gives room bytes) new = (bytes ≡ take (length bytes) a.wire.coming) ×
 Does a (Ends why) new = new ≡ a
 Does a HangsUp new = new ≡ around a.kept (given_up a.wire) a.told
 Does a (Pauses number why) new = new ≡ a
+Does a (Confirms number) new = new ≡ a
 Does a (Tells note) new = new ≡ around a.kept a.wire (a.told ++ note ∷ [])
 
 -- The same, after what happened at the printer's end.

@@ -7,7 +7,7 @@ use Rattle.escpos_till.specs.declared.machine.Stage.TheVariants as stage
 use Rattle.escpos_till.specs.declared.machine.TillNote.{TillNote}
 use Rattle.escpos_till.specs.declared.surroundings.Surroundings.{Surroundings}
 use Rattle.escpos_till.specs.declared.store.StoreFault.{StoreFault}
-use Rattle.escpos_till.specs.Driver.{Answered, Call, Deed, Deliver, GivesUp, Keeps, Learns, Loses, Pauses, Serves, ServesAll, Tells}
+use Rattle.escpos_till.specs.Driver.{Answered, Call, Confirms, Deed, Deliver, GivesUp, Keeps, Learns, Loses, Pauses, Serves, ServesAll, Tells}
 use Rattle.escpos_till.specs.Machine.{MachineView, after_note}
 use Rattle.escpos_till.specs.Surroundings.{Did}
 use Rattle.escpos_till_model.specs.Around.{Around, CrashesTo, DoesInTime, IsAround, around}
@@ -25,8 +25,9 @@ pub record IsFaithful {S : Type 0} (faithful : S → Type 0) (holds : S → List
 
 -- A deed of the line's: neither the store's nor the owner's.
 abbrev pub IsOnLine : Deed → Type 0
-IsOnLine (Keeps e) = ⊥
-IsOnLine (Loses e why) = ⊥
+IsOnLine (Keeps e and_then) = ⊥
+IsOnLine (Loses e and_then why) = ⊥
+IsOnLine (Confirms number) = ⊥
 IsOnLine (Learns others) = ⊥
 IsOnLine (Pauses number why) = ⊥
 IsOnLine (Tells note) = ⊥
@@ -39,8 +40,9 @@ OnWire w d after = (kept : List Entry) (told : List TillNote) → DoesInTime (ar
 -- A wire does all of these that are the line's, one after another.
 abbrev pub AllOnWire : WireView → List Deed → WireView → Type 0
 AllOnWire w [] after = after ≡ w
-AllOnWire w (Keeps e ∷ ds) after = AllOnWire w ds after
-AllOnWire w (Loses e why ∷ ds) after = AllOnWire w ds after
+AllOnWire w (Keeps e and_then ∷ ds) after = AllOnWire w ds after
+AllOnWire w (Loses e and_then why ∷ ds) after = AllOnWire w ds after
+AllOnWire w (Confirms number ∷ ds) after = AllOnWire w ds after
 AllOnWire w (Learns others ∷ ds) after = AllOnWire w ds after
 AllOnWire w (Pauses number why ∷ ds) after = AllOnWire w ds after
 AllOnWire w (Tells note ∷ ds) after = AllOnWire w ds after
@@ -62,12 +64,12 @@ notes_of (d ∷ ds) = notes_of ds
 
 -- The text for a copy, if the call has one, is such a text.
 abbrev pub MayCall : Call → Type 0
-MayCall (Deliver openings most copy) = IsCopy copy
+MayCall (Deliver openings most copy further) = IsCopy copy
 MayCall call = Unit {0}
 
 -- The call has an entry kept, and no more: nothing is done over the line for it.
 abbrev pub IsOffLine : Call → Type 0
-IsOffLine (Deliver openings most copy) = ⊥
+IsOffLine (Deliver openings most copy further) = ⊥
 IsOffLine call = Unit {0}
 
 -- A driver has served a call of a till that is in this world, until its owner was told this note: over a line whose deeds a wire did, with a

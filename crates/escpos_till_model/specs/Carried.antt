@@ -3,7 +3,7 @@ use Rattle.std.specs.Prelude.{ℕ, zero, suc, ◌≡◌, ◌≢◌, ◌+◌, ◌
 use Rattle.std.specs.List.{AllByRecursion}
 use Rattle.escpos_command.specs.declared.command.Command.{Command}
 use Rattle.escpos_command.specs.CommandTable.{AreCommands, spell}
-use Rattle.escpos_command.specs.Digits.{mark_of}
+use Rattle.escpos_host.specs.Counted.{id_of}
 use Rattle.escpos_command.specs.Marks.{marks}
 use Rattle.escpos_real_time.specs.RealTime.{HoldsRealTime}
 use Rattle.escpos_till.specs.declared.entry.Entry.{Entry}
@@ -20,7 +20,7 @@ use Rattle.escpos_till_model.specs.declared.event.Happening.TheVariants as event
 use Rattle.escpos_till_model.specs.World.{Happens, World}
 
 -- A link for which it was kept that a receipt is tried: the mark numbers that are reserved with that, from the first up to the limit, which
--- isn't one of them; and the bytes that were put on the link so far.
+-- isn't one of them; and the bytes that were put on the link so far. Where the next receipt is tried over the same link, a new one begins here.
 pub record Carried : Type 0 where
   pub first : ℕ
   pub limit : ℕ
@@ -43,6 +43,7 @@ limit_of e = 0
 -- The link of an entry that is kept, if a receipt is sent then.
 abbrev pub link_of : Then → Entry → ℕ → List Carried
 link_of (then.Send due) e first = record { first = first; limit = limit_of e; bytes = [] } ∷ []
+link_of (then.SendNext recorded due) e first = record { first = first; limit = limit_of e; bytes = [] } ∷ []
 link_of next e first = []
 
 abbrev pub link_at : Stage → ℕ → List Carried
@@ -78,7 +79,7 @@ pub record HasOwnMarks (l : Carried) : Type 0 where
   pub used : ℕ
   pub begins : spell said ≡ l.bytes ++ unsaid
   pub commands : AreCommands said
-  pub marks_are : marks said ≡ map mark_of (numbers_from used l.first)
+  pub marks_are : marks said ≡ map id_of (numbers_from used l.first)
   pub within : l.first + used ≤ l.limit
   pub no_real_time : ¬ HoldsRealTime l.bytes
 
@@ -98,7 +99,8 @@ link_for kept e = []
 -- tried, with what was put since then; for what others add there is none. Nothing is put before there is one. Where a link broke, some of the bytes were put, or none or all.
 abbrev pub CarriesBy : List Entry → List Deed → List Carried → List Carried → Type 0
 CarriesBy kept [] before links = links ≡ before
-CarriesBy kept (Keeps e ∷ ds) before links = CarriesBy (kept ++ e ∷ []) ds (link_for kept e ++ before) links
+CarriesBy kept (Keeps e None ∷ ds) before links = CarriesBy (kept ++ e ∷ []) ds (link_for kept e ++ before) links
+CarriesBy kept (Keeps e (Some f) ∷ ds) before links = CarriesBy (kept ++ e ∷ f ∷ []) ds (link_for (kept ++ e ∷ []) f ++ (link_for kept e ++ before)) links
 CarriesBy kept (Learns others ∷ ds) before links = CarriesBy (kept ++ others) ds before links
 CarriesBy kept (Puts bytes ∷ ds) before links = (before ≢ []) × CarriesBy kept ds (with_put bytes before) links
 CarriesBy kept (Breaks bytes why ∷ ds) before links = (count : ℕ) × (count ≤ length bytes) × (before ≢ []) × CarriesBy kept ds (with_put (take count bytes) before) links

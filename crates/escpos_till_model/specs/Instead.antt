@@ -10,16 +10,19 @@ use Rattle.escpos_till.specs.declared.machine.Stage.TheVariants as stage
 use Rattle.escpos_till.specs.declared.machine.Talk.{Talk}
 use Rattle.escpos_till.specs.declared.machine.Then.{Then}
 use Rattle.escpos_till.specs.declared.machine.TillNote.{TillNote}
-use Rattle.escpos_till.specs.Machine.{MachineView, news_of}
+use Rattle.escpos_till.specs.Machine.{MachineView, entry_with, news_of}
 use Rattle.escpos_till_model.specs.declared.event.Happening.{Happening}
 use Rattle.escpos_till_model.specs.declared.event.Happening.TheVariants as event
 use Rattle.escpos_till_model.specs.declared.event.NotPossible.{NotPossible}
 use Rattle.escpos_till_model.specs.declared.event.NotPossible.TheVariants as why
 use Rattle.escpos_till_model.specs.World.{Happens, IsCopy, Runs, World, is_printer_event}
 
--- The machine asks for an entry to be kept, for bytes to be put or answers to be heard, or for its owner to be told.
+-- The machine asks for an entry to be kept, or two together, for bytes to be put or answers to be heard, or for its owner to be told.
 abbrev pub KeepsEntry : Stage → Type 0
 KeepsEntry s = (e : Entry) × (next : Then) × (s ≡ stage.Keeping e next)
+
+abbrev pub KeepsBoth : Stage → Type 0
+KeepsBoth s = (e : Entry) × (next : Then) × (f : Entry) × (s ≡ stage.Keeping e next) × (entry_with next ≡ Some f)
 
 abbrev pub Talks : Stage → Type 0
 Talks s = (talk : Talk) × (s ≡ stage.Talking talk)
@@ -35,12 +38,13 @@ abbrev pub IsFor : Happening → Stage → Type 0
 IsFor event.Keep s = KeepsEntry s
 IsFor (event.FailWith cause) s = KeepsEntry s
 IsFor (event.FailWithout cause) s = KeepsEntry s
+IsFor (event.FailWithBoth cause) s = KeepsBoth s
 IsFor (event.Learn others) s = KeepsEntry s
 IsFor (event.FailLearning others cause) s = KeepsEntry s
 IsFor (event.Put most) s = Talks s
 IsFor (event.Break most fewer cause) s = Talks s
 IsFor (event.Hear most) s = Talks s
-IsFor event.Pause s = HasNews s
+IsFor event.News s = HasNews s
 IsFor event.Tell s = HasNote s
 IsFor e s = Unit {0}
 
@@ -78,7 +82,7 @@ LeftByMemory e w new =
 
 -- It would be a delivery with a text that is none for the line of a copy; it would happen at another end than the printer's.
 abbrev pub HasNoCopy : Happening → Type 0
-HasNoCopy (event.Deliver openings most copy) = ¬ IsCopy copy
+HasNoCopy (event.Deliver openings most copy further) = ¬ IsCopy copy
 HasNoCopy e = ⊥
 
 abbrev pub IsElsewhere : Happening → Type 0
@@ -91,6 +95,11 @@ IsOfOthers (event.Learn others) = Unit {0}
 IsOfOthers (event.FailLearning others cause) = Unit {0}
 IsOfOthers e = ⊥
 
+-- Two entries would have been kept together.
+abbrev pub IsOfBoth : Happening → Type 0
+IsOfBoth (event.FailWithBoth cause) = Unit {0}
+IsOfBoth e = ⊥
+
 abbrev pub Instead : NotPossible → Happening → World → World → Type 0
 Instead why.SwitchedOff e w new = NeedsMachine e × (w.machine ≡ None) × (new ≡ w)
 Instead why.SwitchedOn e w new = IsStart e × (w.machine ≢ None) × (new ≡ w)
@@ -99,6 +108,7 @@ Instead why.NotAsked e w new = ((m : MachineView) × (w.machine ≡ Some m) × �
 Instead why.NotCopyText e w new = HasNoCopy e × (new ≡ w)
 Instead why.NotAtPrinter e w new = IsElsewhere e × (new ≡ w)
 Instead why.Alone e w new = IsOfOthers e × (new ≡ w)
+Instead why.OneByOne e w new = IsOfBoth e × (new ≡ w)
 Instead (why.Machine cause) e w new = Happens w event.Refuse new
 Instead why.Memory e w new = LeftByMemory e w new
 

@@ -2,6 +2,7 @@
 -- proofs alone.
 use Rattle.std.specs.Prelude.{ℕ, ◌≡◌, ◌⊎◌, ◌≤◌, List, [], ◌∷◌, ◌++◌, Option, Some, None}
 use Rattle.escpos_command.specs.declared.command.Command.{Command}
+use Rattle.escpos_command.specs.Digits.{mark_count}
 use Rattle.escpos_host.specs.Machine.{Down, HostView, in_flight}
 use Rattle.escpos_till.specs.declared.entry.Entry.{Entry}
 use Rattle.escpos_till.specs.declared.entry.Entry.TheVariants as entry
@@ -16,13 +17,14 @@ pub record Hand : Type 0 where
   pub limit : ℕ
 
 -- An entry has reserved the numbers from this one up to the limit for the receipt with this number. Each of them was free
--- before that entry.
+-- before that entry, and each has an id of its own.
 pub record Reserves (entries : List Entry) (number mark limit : ℕ) : Type 0 where
   pub before : List Entry
   pub following : List Entry
   pub entries_are : entries ≡ before ++ entry.Tried number limit ∷ following
   pub from : next_free before ≤ mark
   pub to : mark ≤ limit
+  pub few : limit ≤ mark_count
 
 -- These were sent of the receipt in hand, with this number: nothing while the till has its commands; after that the
 -- commands, once, unless the link was lost.

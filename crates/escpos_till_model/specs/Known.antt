@@ -1,10 +1,10 @@
 -- Why what a till has recorded stands on the paper, whatever happens in the world: what holds of every world. For private clauses and
 -- proofs alone.
-use Rattle.std.specs.Prelude.{ℕ, ◌≡◌, ◌≢◌, ◌≤◌, ◌<◌, ◌+◌, Option, Some, None, List, length}
+use Rattle.std.specs.Prelude.{ℕ, ◌≡◌, ◌≢◌, ◌≤◌, ◌<◌, ◌+◌, Option, Some, None, List, [], ◌∷◌, ◌++◌, length}
 use Rattle.escpos_command.specs.declared.command.Command.{Command}
 use Rattle.escpos_command.specs.Digits.{mark_count}
 use Rattle.escpos_host.specs.Earlier.{with_earlier}
-use Rattle.escpos_host.specs.Machine.{HostView, Down, IsSound}
+use Rattle.escpos_host.specs.Machine.{HostView, Down, IsSound, Open}
 use Rattle.escpos_link.specs.Line.{IsLine}
 use Rattle.escpos_link.specs.Trusted.{IsTrusted}
 use Rattle.escpos_link.specs.Wire.{WireView, line_of}
@@ -48,6 +48,24 @@ pub record IsToSend (kept : List Entry) (due : Due) : Type 0 where
   pub follows : MayFollow kept (entry.Tried due.number (next_free kept + marks_taken due.openings))
   pub first : (k : ℕ) → Waits kept k → due.number ≤ k
 
+-- A receipt is answered, and that is to be kept.
+abbrev pub IsToRecord : List Entry → Option Hand → HostView → Entry → ℕ → Type 0
+IsToRecord kept hand h e number =
+    (held : Hand) × (hand ≡ Some held) × (held.number ≡ number) × (e ≡ entry.Recorded number) × (length (recorded kept) < length h.records)
+    × (h.phase ≢ Down)
+
+-- The next receipt, the first that waits, may be sent over the host's link, with the next number for its closing mark.
+pub record IsToSendNext (kept : List Entry) (h : HostView) (due : Due) (tried : Entry) : Type 0 where
+  pub receipt : IsReceiptOf kept due.number due.receipt
+  pub fits : IsSendable due.receipt
+  pub tried_is : tried ≡ entry.Tried due.number (next_free kept + 1)
+  pub follows : MayFollow kept tried
+  pub first : (k : ℕ) → Waits kept k → due.number ≤ k
+  pub within : next_free kept < mark_count
+  pub link : h.phase ≡ Open []
+  pub quiet : h.out ≡ []
+  pub marks : h.next ≡ next_free kept
+
 -- What an entry that is to be kept is, by what follows it.
 abbrev pub IsToKeep : List Entry → Option Hand → HostView → Entry → Then → Type 0
 IsToKeep kept hand h e then.Queued = (hand ≡ None) × (content : Content) × (e ≡ entry.Queued content)
@@ -55,15 +73,11 @@ IsToKeep kept hand h e (then.Take content) = (hand ≡ None) × Suits (then.Take
 IsToKeep kept hand h e then.Raised = (hand ≡ None) × (first : ℕ) × (e ≡ entry.Raised first)
 IsToKeep kept hand h e (then.Cancelled number tried) = (hand ≡ None) × (e ≡ entry.Cancelled number) × (times_tried kept number ≡ tried)
 IsToKeep kept hand h e (then.Send due) = (hand ≡ None) × IsToSend kept due × (e ≡ entry.Tried due.number (next_free kept + marks_taken due.openings))
-IsToKeep kept hand h e (then.Recorded number) =
-    (held : Hand) × (hand ≡ Some held) × (held.number ≡ number) × (e ≡ entry.Recorded number) × (length (recorded kept) < length h.records)
-    × (h.phase ≢ Down)
-
--- A machine at this stage is on a link.
-abbrev pub Linked : Stage → Type 0
-Linked (stage.Talking talk) = Unit {0}
-Linked (stage.Keeping (entry.Recorded number) next) = Unit {0}
-Linked s = ⊥
+IsToKeep kept hand h e (then.Recorded number) = IsToRecord kept hand h e number
+IsToKeep kept hand h e (then.GoOn number tried due) =
+    IsToRecord kept hand h e number × IsToSendNext (kept ++ e ∷ []) h due tried
+IsToKeep kept hand h e (then.SendNext number due) =
+    (held : Hand) × (hand ≡ Some held) × (length h.records ≡ length (recorded kept)) × IsToSendNext kept h due e × IsSo kept (note.Recorded number)
 
 -- What a stage has in hand, where the host has these records with those before it.
 abbrev pub Holds : List Entry → Option Hand → HostView → Stage → Type 0
@@ -73,6 +87,7 @@ Holds kept hand h (stage.Talking talk) =
     (held : Hand) × (hand ≡ Some held) × (held.number ≡ talk.number) × (held.receipt ≡ talk.receipt) × MayFollow kept (entry.Recorded talk.number)
     × (length h.records ≡ length (recorded kept)) × (h.phase ≢ Down)
     × ((receipt : List Command) → talk.receipt ≡ Some receipt → (h.next < held.limit) × IsSendable receipt)
+    × ((number : ℕ) → talk.recorded ≡ Some number → IsSo kept (note.Recorded number))
 Holds kept hand h (stage.HangingUp n) = (hand ≡ None) × IsSo kept n
 Holds kept hand h (stage.Telling n) = (hand ≡ None) × IsSo kept n
 Holds kept hand h s = hand ≡ None

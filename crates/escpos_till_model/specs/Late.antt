@@ -4,8 +4,8 @@
 -- is on the paper, and it need not be sent again.
 use Rattle.std.specs.Prelude.{ℕ, ◌≡◌, ◌<◌, ◌≤◌, List, []}
 use Rattle.escpos_command.specs.declared.command.Command.{Command}
-use Rattle.escpos_command.specs.Digits.{mark_count, mark_of}
-use Rattle.escpos_host.specs.Machine.{HostView, Opening}
+use Rattle.escpos_command.specs.Digits.{mark_count}
+use Rattle.escpos_host.specs.Machine.{HostView, Opening, closed_by}
 use Rattle.escpos_link.specs.Line.{LineView}
 use Rattle.escpos_link.specs.Promised.{Promised}
 use Rattle.escpos_till.specs.declared.entry.Entry.{Entry}
@@ -21,7 +21,7 @@ FirstIsTried entries = (number closing : ℕ) → Waits entries number → HasTr
 abbrev pub TriesPromise : List Entry → List (List Command) → LineView → Type 0
 TriesPromise entries records l =
     (number closing : ℕ) → Waits entries number → HasTry (tries entries) number closing → closing < mark_count
-    → (receipt : List Command) × IsReceiptOf entries number receipt × Promised records (record { receipt = receipt; mark = mark_of closing }) l
+    → (receipt : List Command) × IsReceiptOf entries number receipt × Promised records (closed_by receipt closing) l
 
 -- Both, where these are the receipts that are recorded.
 pub record LateAnswers (entries : List Entry) (records : List (List Command)) (l : LineView) : Type 0 where

@@ -4,7 +4,7 @@
 -- The machine is the one that a program runs, and its calls do what `escpos_till`'s `Machine` says. What follows from that for the store,
 -- for the wire and for the till's owner is said here. The wire has a live link as long as the machine's host is on one: a connection
 -- that is opened and closed again with no byte on it is `Idle`, and a link that the host gives up has ended at that moment, though a
--- program may close its socket a little later. A crash within an append is `FailWith` or `FailWithout`, and then `Crash`.
+-- program may close its socket a little later. A crash within an append is `FailWith`, `FailWithBoth` or `FailWithout`, and then `Crash`.
 --
 -- Others may add entries to the ledger while this till's machine delivers: receipts that they take, mark numbers that they raise and receipts that
 -- they cancel. Here that happens where the machine learns it, just before it keeps an entry.
@@ -34,7 +34,7 @@ use Rattle.escpos_till.specs.Book.{IsBookOf}
 use Rattle.escpos_till.specs.Copy.{IsCopyText}
 use Rattle.escpos_till.specs.Entries.{IsLedger, cancelled, next_free, recorded, taken, times_tried}
 use Rattle.escpos_till.specs.Learning.{AreOthers, FailsToLearn, LearnsAll}
-use Rattle.escpos_till.specs.Machine.{Came, Cancels, Delivers, Ended, IsStarted, Kept, MachineView, Queues, Raises, SameEntries, Unsure, connected, hung_up, news_of, not_connected, put, told}
+use Rattle.escpos_till.specs.Machine.{Came, Cancels, Delivers, Ended, IsStarted, Kept, MachineView, Queues, Raises, SameEntries, Unsure, connected, entry_with, hung_up, news_of, not_connected, put, told}
 use Rattle.escpos_till_model.specs.Late.{LateAnswers}
 use Rattle.escpos_till_model.specs.Receipts.{Among, AreReceipts}
 use Rattle.escpos_till_model.specs.declared.event.Happening.{Happening}
@@ -114,6 +114,14 @@ with_entry kept e = kept ++ e ∷ []
 abbrev pub without_entry : List Entry → Entry → List Entry
 without_entry kept e = kept
 
+-- It is to keep two entries together, and the store fails and has both.
+pub record StoresBoth (Goes : MachineView → MachineView → Type 0) (w : World) (new : World) : Type 0 where
+  pub entry : Entry
+  pub next : Then
+  pub second : Entry
+  pub with : entry_with next ≡ Some second
+  pub moves : Moves (λ m after. (m.stage ≡ stage.Keeping entry next) × Goes m after) w (w.kept ++ entry ∷ second ∷ []) w.told new
+
 -- Others have added these entries before the one that it is to keep, and it learns that.
 pub record Learns (Goes : Then → MachineView → MachineView → Type 0) (w : World) (others : List Entry) (new : World) : Type 0 where
   pub entry : Entry
@@ -126,8 +134,9 @@ pub record Tells (w : World) (new : World) : Type 0 where
   pub note : TillNote
   pub moves : Moves (λ m after. (m.stage ≡ stage.Telling note) × (after ≡ told m.stage m)) w w.kept (w.told ++ note ∷ []) new
 
--- Its owner is told that the printer prints nothing for now, while a receipt is being sent. That is no note of what came of a call.
-pub record TellsPause (m after : MachineView) : Type 0 where
+-- Its owner is told news while a receipt is being sent: that the one before is recorded, or that the printer prints nothing for now. That is no
+-- note of what came of a call.
+pub record TellsNews (m after : MachineView) : Type 0 where
   pub talk : Talk
   pub note : TillNote
   pub talks : m.stage ≡ stage.Talking talk
@@ -230,11 +239,12 @@ Happens w event.Start new = Starts w new
 Happens w (event.Queue content key) new = Calls (λ m after. Queues m content key after) w new
 Happens w (event.Raise first) new = Calls (λ m after. Raises m first after) w new
 Happens w (event.Cancel number) new = Calls (λ m after. Cancels m number after) w new
-Happens w (event.Deliver openings most copy) new = IsCopy copy × Calls (λ m after. Delivers m openings most copy after × FitsLine after.stage) w new
+Happens w (event.Deliver openings most copy further) new = IsCopy copy × Calls (λ m after. Delivers m openings most copy further after × FitsLine after.stage) w new
 Happens w event.Refuse new = Calls SameEntries w new
 Happens w event.Keep new = Stores (λ m after. Kept m.stage m after) with_entry w new
 Happens w (event.FailWith why) new = Stores (λ m after. Unsure m.stage why m after) with_entry w new
 Happens w (event.FailWithout why) new = Stores (λ m after. Unsure m.stage why m after) without_entry w new
+Happens w (event.FailWithBoth why) new = StoresBoth (λ m after. Unsure m.stage why m after) w new
 Happens w (event.Learn others) new = Learns (λ next m after. LearnsAll next others m after) w others new
 Happens w (event.FailLearning others why) new = Learns (λ next m after. FailsToLearn next others why m after) w others new
 Happens w event.Connect new = Calls (λ m after. after ≡ connected m.stage m) w new
@@ -244,7 +254,7 @@ Happens w (event.Break most fewer why) new = Breaks w most fewer why new
 Happens w (event.Hear most) new = Hears w most new
 Happens w (event.End why) new = Calls (λ m after. Ended m.stage why m after) w new
 Happens w event.HangUp new = Calls (λ m after. after ≡ hung_up m.stage m) w new
-Happens w event.Pause new = Calls TellsPause w new
+Happens w event.News new = Calls TellsNews w new
 Happens w event.Tell new = Tells w new
 Happens w (event.OnWire e) new = GoesOnWire e w new
 Happens w event.Idle new = Idles w new

@@ -55,11 +55,13 @@ pub enum Happening {
     /// The machine cancels the receipt with this number, which waits.
     Cancel(ReceiptNumber),
     /// The machine delivers the first receipt that waits, over a link with so many opening marks, on which at most `most` bytes of answers
-    /// are read. `copy` is the text of a line that is put before a receipt that was tried before.
+    /// are read. `copy` is the text of a line that is put before a receipt that was tried before. If `further` is true, those that wait
+    /// after it are sent over the same link.
     Deliver {
         openings: u32,
         most: u32,
         copy: Option<Text>,
+        further: bool,
     },
     /// The machine refuses a call.
     Refuse,
@@ -69,6 +71,8 @@ pub enum Happening {
     FailWith(StoreFault),
     /// The store fails, and doesn't have the entry.
     FailWithout(StoreFault),
+    /// The store fails, and has the two entries that are to be kept together.
+    FailWithBoth(StoreFault),
     /// Others have added these entries before the one that the machine asks for, and it learns that.
     Learn(OthersEntries),
     /// The same, and the machine fails, since it can't learn it.
@@ -94,8 +98,8 @@ pub enum Happening {
     End(SendFault),
     /// The link is given up.
     HangUp,
-    /// The till's owner is told that the printer prints nothing for now, while a receipt is being sent.
-    Pause,
+    /// The till's owner is told news while a receipt is being sent: that the one before is recorded, or that the printer prints nothing for now.
+    News,
     /// The till's owner is told a note.
     Tell,
     /// Something happens at the printer's end of the wire.
@@ -123,6 +127,8 @@ pub enum NotPossible {
     NotAtPrinter,
     /// A `Till` is alone with its ledger: nobody else adds entries to it.
     Alone,
+    /// A `Till` keeps one entry after the other.
+    OneByOne,
     /// The machine refuses the call.
     Machine(TillRefusal),
     /// Out of memory.

@@ -1,7 +1,7 @@
 //! Proof only: the laws of a ledger's receipts, of a till in the world, and of what a driver did on a real store and a real line. The contract
 //! of each function is the law; when run, it does nothing.
 
-ghost use Rattle.std.specs.Prelude.{ℕ, ◌≡◌, ◌<◌, ◌≤◌, ◌⊎◌, Option, List, [], ◌∷◌, ◌++◌, None, Some, length};
+ghost use Rattle.std.specs.Prelude.{ℕ, Bool, ◌≡◌, ◌<◌, ◌≤◌, ◌⊎◌, Option, List, [], ◌∷◌, ◌++◌, None, Some, length};
 ghost use Rattle.escpos_link.specs.Line.{IsLine, LineView};
 ghost use Rattle.escpos_link.specs.Trusted.{IsTrusted};
 ghost use Rattle.escpos_link.specs.Wire.{WireView, given_up, wire_of};
@@ -16,7 +16,7 @@ ghost use Rattle.escpos_till.specs.declared.surroundings.Surroundings.{Surroundi
 ghost use Rattle.escpos_till.specs.Entries.{HasKey, IsLedger, Taken, cancelled, next_free, recorded, taken, times_tried, waiting};
 ghost use Rattle.escpos_host.specs.Machine.{IsSound};
 ghost use Rattle.escpos_till.specs.Book.{IsBookOf};
-ghost use Rattle.escpos_till.specs.Driver.{Answered, Call, Queue, Ran, RanTo, Serves, Tells};
+ghost use Rattle.escpos_till.specs.Driver.{Answered, Call, Confirms, Queue, Ran, RanTo, Serves, Tells};
 ghost use Rattle.escpos_till.specs.Machine.{Delivers, IsStarted, MachineView, RefusesDeliver, after_note};
 ghost use Rattle.escpos_till.specs.Surroundings.{Did};
 ghost use Rattle.escpos_till_model.specs.Again.{HearsAnswer, IsLostFirst, IsNotTriedAgain};
@@ -41,7 +41,7 @@ pub fn each_is_kept()
     ensures ended { (before following : List Entry) (number : ℕ) (end e : Entry) → IsLedger (before ++ end ∷ following) → IsEndOf number end → Among e following → ¬ IsAbout number e }
     ensures nothing_waits { (m : MachineView) (entries : List Entry) (openings : ℕ) → IsLedger entries → IsBookOf m.book entries → RefusesDeliver m openings refusal.NothingWaits
         → (receipt : Taken) → Among receipt (taken entries) → Among receipt.number (recorded entries) ⊎ Among receipt.number (cancelled entries) }
-    ensures delivers { (m asked : MachineView) (entries : List Entry) (openings most : ℕ) (copy : Option (List ℕ)) → IsBookOf m.book entries → (it : Delivers m openings most copy asked)
+    ensures delivers { (m asked : MachineView) (entries : List Entry) (openings most : ℕ) (copy : Option (List ℕ)) (further : Bool) → IsBookOf m.book entries → (it : Delivers m openings most copy further asked)
         → (content : Content) × Among (record { number = it.due.number; content = content }) (waiting entries) }
 {}
 
@@ -69,10 +69,12 @@ pub fn what_is_recorded_stands()
     ensures begins { (l : LineView) (n : ℕ) → IsLine l → IsTrusted l → l.host.next ≤ n → Begins (record { machine = None; kept = entry.Raised n ∷ []; wire = given_up (wire_of l); told = [] }) }
 {
     escpos_command::laws::mark_numbers();
+    escpos_host::laws::counted_marks();
     escpos_link::laws::trust();
     escpos_link::laws::promise();
     escpos_link::laws::every_line();
     escpos_link::laws::in_turn();
+    escpos_link::laws::fitting();
 }
 
 /// What is heard: once a machine has heard an answer to the closing mark of a try of a receipt, be it of an older link, no entry says that the
@@ -82,10 +84,12 @@ pub fn what_is_heard_is_not_sent_again()
         → Runs heard happenings after → ¬ IsLostFirst happenings → IsNotTriedAgain number w.kept after.kept }
 {
     escpos_command::laws::mark_numbers();
+    escpos_host::laws::counted_marks();
     escpos_link::laws::trust();
     escpos_link::laws::promise();
     escpos_link::laws::every_line();
     escpos_link::laws::in_turn();
+    escpos_link::laws::fitting();
 }
 
 /// What goes out: over every list of happenings each link has mark numbers of its own, which an entry has reserved before. The marks in the
@@ -99,10 +103,12 @@ pub fn marks_are_used_once()
         → AllByRecursion HasOwnMarks links }
 {
     escpos_command::laws::mark_numbers();
+    escpos_host::laws::counted_marks();
     escpos_link::laws::trust();
     escpos_link::laws::promise();
     escpos_link::laws::every_line();
     escpos_link::laws::in_turn();
+    escpos_link::laws::fitting();
 }
 
 /// A driver's run is a run of the world: whatever a driver did, in the order in which it did it, and whatever happened at the printer's end
@@ -241,6 +247,23 @@ pub fn a_driver_uses_marks_once<S: Store, L: PrinterLine>()
     ensures both { (low mid high : ℕ) (links others : List Carried) → AreApart low links mid → AreApart mid others high → AreApart low (others ++ links) high }
 {
     escpos_command::laws::mark_numbers();
+    escpos_host::laws::counted_marks();
+    escpos_link::laws::fitting();
+    every_world();
+}
+
+/// What a driver tells while a call goes on: a receipt that its owner is told is recorded, while the next one is being sent, is recorded,
+/// whatever a crash leaves.
+pub fn what_is_confirmed_is_recorded<S: Store, L: PrinterLine>()
+    ensures ran { (w : World) (m after : MachineView) (a new : Around) (number : ℕ) (ran : Ran DoesInTime m a after new) → HasCome w → IsAround m a w → Among (Confirms number) ran.deeds
+        → Among number (recorded new.kept) }
+    ensures served { (world : World) (m after : MachineView) (old new : Surroundings S L) (call : Call) (note : TillNote) (number most : ℕ) (wire : WireView) (left : List Entry)
+        (it : IsServed S.faithful S.holds S.leaves S.says L.did world m old call note most after new wire) → S.leaves new.store left → Among (Confirms number) it.serves.runs.before
+        → Among number (recorded left) }
+    ensures given_up { (world : World) (m after : MachineView) (old new : Surroundings S L) (call : Call) (number most : ℕ) (wire : WireView) (left : List Entry)
+        (it : IsGivenUp S.faithful S.holds S.leaves S.says L.did world m old call most after new wire) → S.leaves new.store left → Among (Confirms number) it.gives.runs.run.deeds
+        → Among number (recorded left) }
+{
     escpos_link::laws::fitting();
     every_world();
 }
@@ -250,8 +273,10 @@ pub(crate) fn every_world()
     ensures { (w after : World) (happenings : List Happening) → Begins w → Runs w happenings after → IsWorld after }
 {
     escpos_command::laws::mark_numbers();
+    escpos_host::laws::counted_marks();
     escpos_link::laws::trust();
     escpos_link::laws::promise();
     escpos_link::laws::every_line();
     escpos_link::laws::in_turn();
+    escpos_link::laws::fitting();
 }

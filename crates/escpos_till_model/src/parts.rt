@@ -13,7 +13,8 @@ ghost use Rattle.escpos_till.specs.declared.machine.TillNote.{TillNote};
 ghost use Rattle.escpos_till.specs.Machine.{Delivers, Ended, Kept, MachineView, Unsure, put};
 ghost use Rattle.escpos_till_model.specs.declared.event.Happening.TheVariants as event;
 ghost use Rattle.escpos_till_model.specs.Instead.{HasNews, Instead, IsUnwanted, KeepsEntry};
-ghost use Rattle.escpos_till_model.specs.Known.{IsWorld, Linked};
+ghost use Rattle.escpos_till_model.specs.Known.{IsWorld};
+ghost use Rattle.escpos_till.specs.Machine.{IsLinked as Linked};
 ghost use Rattle.escpos_till_model.specs.World.{Calls, FitsLine, GoesOnWire, Happens};
 
 use crate::event::{Happening, NotPossible};
@@ -60,11 +61,13 @@ impl TillParts {
                 openings,
                 most,
                 copy,
-            } => self.deliver(openings, most, &copy),
+                further,
+            } => self.deliver(openings, most, &copy, further),
             Happening::Refuse => self.refuse(),
             Happening::Keep => self.keep(alloc),
             Happening::FailWith(why) => self.fail_with(alloc, why),
             Happening::FailWithout(why) => self.fail_without(why),
+            Happening::FailWithBoth(_) => Err(NotPossible::OneByOne),
             Happening::Learn(_) | Happening::FailLearning { .. } => Err(NotPossible::Alone),
             Happening::Connect => self.connect(),
             Happening::Miss => self.miss(),
@@ -73,7 +76,7 @@ impl TillParts {
             Happening::Hear(most) => self.hear(most),
             Happening::End(why) => self.end(why),
             Happening::HangUp => self.hang_up(),
-            Happening::Pause => self.pause(),
+            Happening::News => self.news(),
             Happening::Tell => self.tell(),
             Happening::OnWire(event) => self.on_wire(event),
             Happening::Idle => self.idle(),
@@ -155,14 +158,20 @@ impl TillParts {
         Ok(())
     }
 
-    fn deliver(&mut self, openings: u32, most: u32, copy: &Option<Text>) -> Result<(), NotPossible>
-        ensures happened { OnOk result (Happens self.old (event.Deliver openings most copy.now) self.new) }
-        ensures refused { IfErr result (λ why. Instead why (event.Deliver openings most copy.now) self.old self.new) }
+    fn deliver(
+        &mut self,
+        openings: u32,
+        most: u32,
+        copy: &Option<Text>,
+        further: bool,
+    ) -> Result<(), NotPossible>
+        ensures happened { OnOk result (Happens self.old (event.Deliver openings most copy.now further) self.new) }
+        ensures refused { IfErr result (λ why. Instead why (event.Deliver openings most copy.now further) self.old self.new) }
     {
         match copy {
-            None => self.deliver_as(openings, most, None),
+            None => self.deliver_as(openings, most, None, further),
             Some(text) => match CopyText::new(text.bytes()) {
-                Some(text) => self.deliver_as(openings, most, Some(&text)),
+                Some(text) => self.deliver_as(openings, most, Some(&text), further),
                 None => Err(NotPossible::NotCopyText),
             },
         }
@@ -173,16 +182,17 @@ impl TillParts {
         openings: u32,
         most: u32,
         copy: Option<&CopyText<'_>>,
+        further: bool,
     ) -> Result<(), NotPossible>
-        ensures happened { OnOk result (Calls (λ m after. Delivers m openings most (option_map (λ t. t.now) copy.entry) after × FitsLine after.stage) self.old self.new) }
-        ensures refused { IfErr result (λ why. Instead why (event.Deliver openings most (option_map (λ t. t.now) copy.entry)) self.old self.new) }
+        ensures happened { OnOk result (Calls (λ m after. Delivers m openings most (option_map (λ t. t.now) copy.entry) further after × FitsLine after.stage) self.old self.new) }
+        ensures refused { IfErr result (λ why. Instead why (event.Deliver openings most (option_map (λ t. t.now) copy.entry) further) self.old self.new) }
     {
         // Proof only: a receipt fits the line.
         escpos_link::laws::fitting();
         let Some(machine) = &mut self.machine else {
             return Err(NotPossible::SwitchedOff);
         };
-        if let Err(why) = machine.deliver(openings, copy, most) {
+        if let Err(why) = machine.deliver(openings, copy, most, further) {
             // Proof only: its host is sound.
             machine.is_sound();
             return Err(NotPossible::Machine(why));
@@ -243,9 +253,9 @@ impl TillParts {
         Ok(())
     }
 
-    fn pause(&mut self) -> Result<(), NotPossible>
-        ensures happened { OnOk result (Happens self.old event.Pause self.new) }
-        ensures refused { IfErr result (λ why. Instead why event.Pause self.old self.new) }
+    fn news(&mut self) -> Result<(), NotPossible>
+        ensures happened { OnOk result (Happens self.old event.News self.new) }
+        ensures refused { IfErr result (λ why. Instead why event.News self.old self.new) }
     {
         let Some(machine) = &mut self.machine else {
             return Err(NotPossible::SwitchedOff);
@@ -290,11 +300,11 @@ impl TillParts {
             Ok(entry) => entry,
             Err(why) => return Err(why),
         };
-        let is_tried = is_try(&entry);
+        let opens = opens_link(machine, &entry);
         if self.kept.push(entry).is_err() {
             return Err(NotPossible::Memory);
         }
-        if !is_tried {
+        if !opens {
             keep(machine, &mut self.wire);
             return Ok(());
         }
@@ -407,7 +417,7 @@ impl TillParts {
         self.wire.heard(consumed);
         // Proof only: its host is sound.
         machine.is_sound();
-        let linked = is_linked(machine);
+        let linked = machine.is_linked();
         hang_up_if(&mut self.wire, !linked);
         Ok(())
     }
@@ -518,7 +528,7 @@ impl TillParts {
         let Some(machine) = &self.machine else {
             return false;
         };
-        is_linked(machine)
+        machine.is_linked()
     }
 }
 
@@ -551,7 +561,7 @@ fn has_entry(machine: &TillMachine) -> bool
     matches!(machine.asks(), Action::Append(_))
 }
 
-// Whether the machine is to tell its owner that the printer pauses.
+// Whether the machine has news for its owner while it talks.
 fn has_news(machine: &TillMachine) -> bool
     ensures { IsTrue result ↔ HasNews machine.now.stage }
 {
@@ -571,31 +581,28 @@ fn note_of(machine: &TillMachine) -> Option<TillNote>
     }
 }
 
-// Whether the machine is on a link.
-fn is_linked(machine: &TillMachine) -> bool
-    ensures { IsTrue result ↔ Linked machine.now.stage }
+// A link is opened for the entry: a receipt is tried by it, and not over the link of the one before.
+fn opens_link(machine: &TillMachine, entry: &Entry) -> bool
+    ensures opens { IsTrue result → (Linked machine.now.stage → ⊥) × ((number : ℕ) × (limit : ℕ) × (entry.now ≡ Entry.Tried number limit)) }
+    ensures other { ¬ IsTrue result → (Linked machine.now.stage → ⊥) → (number limit : ℕ) → entry.now ≢ Entry.Tried number limit }
 {
-    if machine.talks() {
-        return true;
-    }
-    match machine.asks() {
-        Action::Append(entry) => matches!(entry, Entry::Recorded { .. }),
-        _ => false,
-    }
+    is_try(entry) && !machine.is_linked()
 }
 
-// An entry is kept that isn't a try: the machine's link, if it is on one, is given up.
+// An entry is kept for which no link is opened: the machine's link, if it is on one, is given up unless it is still on it.
 fn keep(machine: &mut TillMachine, wire: &mut Wire)
     ensures kept { Kept machine.old.stage machine.old machine.new }
     ensures sound { IsSound machine.new.host }
-    ensures linked { Linked machine.old.stage → wire.new ≡ given_up wire.old }
+    ensures ends { Linked machine.old.stage → (Linked machine.new.stage → ⊥) → wire.new ≡ given_up wire.old }
+    ensures stays { Linked machine.new.stage → wire.new ≡ wire.old }
     ensures no_link { (Linked machine.old.stage → ⊥) → wire.new ≡ wire.old }
 {
-    let linked = is_linked(machine);
+    let linked = machine.is_linked();
     machine.appended(Ok(()));
     // Proof only: its host is sound.
     machine.is_sound();
-    hang_up_if(wire, linked);
+    let ends = linked && !machine.is_linked();
+    hang_up_if(wire, ends);
 }
 
 // A try is kept: there is a link, and the machine talks over it. No is answered where its host couldn't put its opening marks out: the link is
@@ -628,7 +635,7 @@ fn fail(machine: &mut TillMachine, wire: &mut Wire, why: StoreFault)
     ensures linked { Linked machine.old.stage → wire.new ≡ given_up wire.old }
     ensures no_link { (Linked machine.old.stage → ⊥) → wire.new ≡ wire.old }
 {
-    let linked = is_linked(machine);
+    let linked = machine.is_linked();
     machine.appended(Err(why));
     // Proof only: its host is sound.
     machine.is_sound();

@@ -16,7 +16,7 @@ const NEXT: u32 = 7;
 fn raises(rt: &impl Abort, store: &mut Filed) {
     assert!(rt;
         matches!(
-            store.append(&Entry::Raised { next: NEXT }),
+            store.append(&Entry::Raised { next: NEXT }, None),
             Ok(Appended::Done)
         )
     );

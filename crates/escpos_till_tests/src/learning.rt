@@ -23,7 +23,7 @@ fn cancelled(rt: &impl Abort, at: usize) -> Entry {
 // A machine that has taken S, and is to keep that it is tried.
 fn tries(rt: &impl Abort, alloc: Global) -> TillMachine {
     let mut machine = machine_of(rt, alloc, &[taken(rt, alloc)]);
-    assert!(rt; machine.deliver(1, None, 100) == Ok(()));
+    assert!(rt; machine.deliver(1, None, 100, false) == Ok(()));
     machine.connected(true);
     keeps_try(rt, &machine, 2);
     machine

@@ -74,7 +74,7 @@ fn adds<S: Alter>(
         } else {
             entry_at(rt, alloc, at)
         };
-        assert!(rt; matches!(store.append(&entry), Ok(Appended::Done)));
+        assert!(rt; matches!(store.append(&entry, None), Ok(Appended::Done)));
     }
 }
 

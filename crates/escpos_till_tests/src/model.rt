@@ -256,6 +256,133 @@ fn answered_late(rt: HostRuntime) {
     prints(&rt, &till, ONCE);
 }
 
+// What happens over a link once it is to be kept that a receipt is recorded and the next one is tried.
+const FURTHER: [Plain; 12] = [
+    Plain::Keep,
+    Plain::Keep,
+    Plain::News,
+    Plain::Put,
+    Plain::Feed,
+    Plain::HandOver,
+    Plain::Hear,
+    Plain::HandOver,
+    Plain::Hear,
+    Plain::Keep,
+    Plain::HangUp,
+    Plain::Tell,
+];
+
+// Two receipts are taken, and the first is printed: it is to be kept that it is recorded, and that the second one is tried.
+fn printed_first(rt: &impl Abort, alloc: Global) -> Till {
+    let mut till = till_at_last(rt, alloc);
+    all_happen(rt, alloc, &mut till, &TAKEN);
+    all_happen(rt, alloc, &mut till, &TAKEN[1..]);
+    all_happen(rt, alloc, &mut till, &[Plain::DeliverAll]);
+    all_happen(rt, alloc, &mut till, &DELIVERY[1..15]);
+    prints(rt, &till, ONCE);
+    till
+}
+
+// Both go over one link, and the second one isn't asked for an opening mark.
+#[test]
+fn goes_further(rt: HostRuntime) {
+    let (alloc, first, second) = (rt.alloc(), number(&rt, 1), number(&rt, 2));
+    let mut till = printed_first(&rt, alloc);
+    all_happen(&rt, alloc, &mut till, &FURTHER);
+    prints(&rt, &till, TWICE);
+    stand(
+        &rt,
+        &till,
+        &[
+            ReceiptState::Recorded { place: 0 },
+            ReceiptState::Recorded { place: 1 },
+        ],
+    );
+    // that the first one is recorded is news, and no note of what came of a call
+    assert!(&rt;
+        till.told()
+            == [
+                TillNote::Queued(first),
+                TillNote::Queued(second),
+                TillNote::Recorded(second),
+            ]
+            .as_slice()
+    );
+    assert!(&rt; till.entries().len() == 6);
+}
+
+// The store fails, and has both entries: the second receipt was tried, and nothing of it was sent.
+#[test]
+fn fails_further(rt: HostRuntime) {
+    let (alloc, second) = (rt.alloc(), number(&rt, 2));
+    let mut till = printed_first(&rt, alloc);
+    all_happen(
+        &rt,
+        alloc,
+        &mut till,
+        &[
+            Plain::Keep,
+            Plain::FailWith,
+            Plain::HangUp,
+            Plain::Tell,
+            Plain::Crash,
+            Plain::Start,
+            Plain::Restart,
+        ],
+    );
+    stand(
+        &rt,
+        &till,
+        &[
+            ReceiptState::Recorded { place: 0 },
+            ReceiptState::Waiting { tried: 1 },
+        ],
+    );
+    all_happen(&rt, alloc, &mut till, &DELIVERY);
+    was_told(&rt, &till, TillNote::Recorded(second));
+    prints(&rt, &till, TWICE);
+}
+
+// A `Till` keeps one entry after the other.
+#[test]
+fn one_by_one(rt: HostRuntime) {
+    let alloc = rt.alloc();
+    let mut till = printed_first(&rt, alloc);
+    let entries = till.entries().len();
+    assert!(&rt; happens(&rt, alloc, &mut till, Plain::FailWithBoth) == Err(NotPossible::OneByOne));
+    assert!(&rt; till.entries().len() == entries);
+}
+
+// The link ends while the second receipt is on it: the first one stays recorded, and the second one waits.
+#[test]
+fn ends_further(rt: HostRuntime) {
+    let (alloc, second) = (rt.alloc(), number(&rt, 2));
+    let mut till = printed_first(&rt, alloc);
+    all_happen(&rt, alloc, &mut till, &FURTHER[..4]);
+    all_happen(
+        &rt,
+        alloc,
+        &mut till,
+        &[Plain::End, Plain::HangUp, Plain::Tell],
+    );
+    stand(
+        &rt,
+        &till,
+        &[
+            ReceiptState::Recorded { place: 0 },
+            ReceiptState::Waiting { tried: 1 },
+        ],
+    );
+    was_told(
+        &rt,
+        &till,
+        TillNote::Waiting {
+            number: second,
+            why: SendFault::Ended,
+        },
+    );
+}
+
 // S is tried and cancelled: it isn't sent again, and the answer that comes then counts for nothing.
 #[test]
 fn cancelled(rt: HostRuntime) {

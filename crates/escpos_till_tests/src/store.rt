@@ -76,7 +76,7 @@ fn are_alike(rt: &impl Abort, entry: &Entry, wanted: &Entry) {
 
 fn adds_all<S: Alter>(rt: &impl Abort, store: &mut SqliteStore<S>, entries: &[Entry]) {
     for entry in entries {
-        assert!(rt; matches!(store.append(entry), Ok(Appended::Done)));
+        assert!(rt; matches!(store.append(entry, None), Ok(Appended::Done)));
     }
 }
 

@@ -24,7 +24,7 @@ fn prints(rt: &impl Abort, alloc: Global, machine: &mut TillMachine, around: &mu
         panic!(rt; "not taken");
     }
     assert!(rt; matches!(drive(machine, around, 1_000), Some(TillNote::Queued(_))));
-    assert!(rt; machine.deliver(1, None, 1_000) == Ok(()));
+    assert!(rt; machine.deliver(1, None, 1_000, false) == Ok(()));
     assert!(rt; matches!(drive(machine, around, 1_000), Some(TillNote::Recorded(_))));
 }
 

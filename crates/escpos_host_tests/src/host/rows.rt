@@ -41,16 +41,16 @@ fn leaves_receipt(rt: &impl Abort, host: &mut Host, (_, line): (&[u8], &[u8])) {
 
 fn uses_marks_up(rt: &impl Abort, alloc: Global, host: &mut Host) {
     links_up(rt, host);
-    puts_out(rt, host, b"\x1D(H\x06\x0000ZZZZ");
+    puts_out(rt, host, b"\x1D(H\x06\x000041Z2");
     assert!(rt; host.nudge() == Err(HostError::MarksUsedUp));
-    hears(rt, host, b"\x37\x22ZZZZ\x00", 7, HostEvent::Opened);
+    hears(rt, host, b"\x37\x2241Z2\x00", 7, HostEvent::Opened);
     hands_back(rt, alloc, host, S, HostError::MarksUsedUp);
     assert!(rt; host.link_up() == Err(HostError::AlreadyUp));
 }
 
 #[test]
 fn mark_numbers(rt: HostRuntime) {
-    let mut host = Host::new(rt.alloc(), 1_679_615);
+    let mut host = Host::new(rt.alloc(), 4_294_967_294);
     uses_marks_up(&rt, rt.alloc(), &mut host);
 }
 
@@ -295,7 +295,7 @@ fn resume(rt: HostRuntime) {
     records
         .push(read_receipt(rt.alloc(), text).expect(&rt, "a receipt"))
         .expect(&rt, "memory");
-    let mut host = Host::resume(rt.alloc(), 5, records);
+    let mut host = Host::resume(rt.alloc(), 5, 0, records);
     goes_on_from_five(&rt, rt.alloc(), &mut host);
 }
 
@@ -387,7 +387,7 @@ fn is_told(rt: &impl Abort, host: &mut Host, bytes: &[u8]) {
 fn reports(rt: HostRuntime) {
     let mut host = Host::new(rt.alloc(), 0);
     asks_for_reports(&rt, rt.alloc(), &mut host);
-    let mut host = Host::new(rt.alloc(), 1_679_616);
+    let mut host = Host::new(rt.alloc(), 4_294_967_295);
     assert!(&rt; host.link_up_reporting() == Err(HostError::MarksUsedUp));
     assert!(&rt; open_link_reporting(&mut host, 1) == Err(HostError::MarksUsedUp));
     let mut host = Host::new(rt.alloc(), 7);

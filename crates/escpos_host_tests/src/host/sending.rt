@@ -275,16 +275,16 @@ fn refused_links(rt: HostRuntime) {
     let why = SendFault::Refused(HostError::MarksUsedUp);
     // the number of the first mark, how many opening marks there are, how many reads are made, and what is written
     let rows: [(u32, u32, u64, &[u8]); 3] = [
-        (1_679_616, 3, 0, b""),
-        (1_679_615, 2, 0, b""),
-        (1_679_615, 1, 1, b"\x1D(H\x06\x0000ZZZZ"),
+        (4_294_967_295, 3, 0, b""),
+        (4_294_967_294, 2, 0, b""),
+        (4_294_967_294, 1, 1, b"\x1D(H\x06\x000041Z2"),
     ];
     for (first, openings, pulls, written) in rows {
         let mut host = Host::new(rt.alloc(), first);
         let row = ((S, openings, 100), Err(why));
-        let link = (b"\x37\x22ZZZZ\x00".as_slice(), pulls, written);
+        let link = (b"\x37\x2241Z2\x00".as_slice(), pulls, written);
         sends_once(&rt, rt.alloc(), &mut host, row, link);
-        assert!(&rt; host.next_mark() == 1_679_616);
+        assert!(&rt; host.next_mark() == 4_294_967_295);
         is_left(&rt, &mut host, false);
     }
 }

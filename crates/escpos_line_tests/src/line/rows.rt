@@ -77,6 +77,23 @@ fn host_restart(rt: HostRuntime) {
     has(&rt, &sim, sight, &[b"Hi"], ONCE);
 }
 
+// Receipts go over a line whose marks have the ids ZZZY, ZZZZ, 0000 and, once the host is restarted, 0001 and 0002.
+#[test]
+fn ids_come_round(rt: HostRuntime) {
+    let mut sim = Sim::new(rt.alloc(), ONLINE, 1_679_614, LineWidth::usual()).expect(&rt, "a line");
+    goes_straight(&rt, rt.alloc(), &mut sim, 0);
+    goes_straight(&rt, rt.alloc(), &mut sim, 1);
+    let sight = (HostState::Ready, 1_679_617, 2, false, 4, 0, 0);
+    has(&rt, &sim, sight, &[b"Hi", b"Hi"], TWICE);
+    let reused = Refusal::MarkReused { least: 1_679_617 };
+    is_refused(&rt, &mut sim, 1, reused);
+    tells(&rt, &mut sim, Event::HostRestart(1_679_617), Note::Done);
+    tells(&rt, &mut sim, Event::PrinterLeaves, Note::Done);
+    goes_straight(&rt, rt.alloc(), &mut sim, 2);
+    let sight = (HostState::Ready, 1_679_619, 3, false, 6, 0, 0);
+    has(&rt, &sim, sight, &[b"Hi", b"Hi", b"Hi"], THRICE);
+}
+
 // The host goes on with this many of its records, at most, and with this number.
 fn resumes(rt: &impl Abort, sim: &mut Sim, first_mark: u32, count: usize) {
     assert!(rt; sim.resume(first_mark, count).is_ok());

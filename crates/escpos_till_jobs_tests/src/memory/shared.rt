@@ -59,7 +59,7 @@ const NINE: Entry = Entry::Raised { next: 9 };
 // The ledger is let go, and the others' entry is found before one is added. None is where memory is refused.
 fn finds(rt: &impl Abort, store: &mut SharedStore<BusyLedger, MemoryStore>) -> bool {
     store.let_go();
-    match store.append(&NINE) {
+    match store.append(&NINE, None) {
         Ok(Appended::Others(others)) => {
             assert!(rt; others.len() == 1);
             true
@@ -79,11 +79,11 @@ fn append_refused(rt: HostRuntime) {
     if !finds(&rt, &mut store) {
         assert!(&rt; finds(&rt, &mut store));
     }
-    match store.append(&NINE) {
+    match store.append(&NINE, None) {
         Ok(added) => assert!(&rt; matches!(added, Appended::Done)),
         Err(why) => {
             assert!(&rt; why == StoreFault::Memory);
-            match store.append(&NINE) {
+            match store.append(&NINE, None) {
                 Ok(added) => assert!(&rt; matches!(added, Appended::Done)),
                 Err(why) => assert!(&rt; why == StoreFault::Failed),
             }

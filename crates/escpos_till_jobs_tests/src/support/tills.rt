@@ -279,8 +279,8 @@ impl Ledgers<MemoryStore> for BusyLedger {
         }
         for entry in &self.added {
             // (once more where memory was refused)
-            if store.append(entry).is_err() {
-                let _ = store.append(entry);
+            if store.append(entry, None).is_err() {
+                let _ = store.append(entry, None);
             }
         }
         Ok(store)

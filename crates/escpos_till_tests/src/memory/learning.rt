@@ -26,9 +26,9 @@ fn tries_at_last(rt: &impl Abort, alloc: Global, entries: &[Entry]) -> TillMachi
             }
         }
     };
-    if let Err(why) = machine.deliver(1, None, 100) {
+    if let Err(why) = machine.deliver(1, None, 100, false) {
         assert!(rt; why == TillRefusal::Memory);
-        assert!(rt; machine.deliver(1, None, 100) == Ok(()));
+        assert!(rt; machine.deliver(1, None, 100, false) == Ok(()));
     }
     machine.connected(true);
     machine

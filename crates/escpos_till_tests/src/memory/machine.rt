@@ -36,9 +36,9 @@ fn takes_at_last(rt: &impl Abort, alloc: Global, machine: &mut TillMachine) {
 
 // It is to be delivered.
 fn delivers_at_last(rt: &impl Abort, machine: &mut TillMachine) {
-    if let Err(why) = machine.deliver(1, None, 100) {
+    if let Err(why) = machine.deliver(1, None, 100, false) {
         assert!(rt; why == TillRefusal::Memory);
-        assert!(rt; machine.deliver(1, None, 100) == Ok(()));
+        assert!(rt; machine.deliver(1, None, 100, false) == Ok(()));
     }
     machine.connected(true);
     machine.appended(Ok(()));

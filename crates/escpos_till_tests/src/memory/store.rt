@@ -13,7 +13,7 @@ use std::process::Abort;
 
 // An entry is added. Answers no where memory is refused.
 fn adds<S: Alter>(rt: &impl Abort, store: &mut SqliteStore<S>, next: u32) -> bool {
-    match store.append(&Entry::Raised { next }) {
+    match store.append(&Entry::Raised { next }, None) {
         Ok(appended) => matches!(appended, Appended::Done),
         Err(fault) => {
             assert!(rt; fault == StoreFault::Memory || fault == StoreFault::Failed);

@@ -103,7 +103,7 @@ fn delivers(rt: &impl Abort, till: &mut DrivenTill) -> Came {
         0 => ANSWERS_01,
         _ => ANSWERS_23,
     };
-    match till.machine.deliver(1, None, 100) {
+    match till.machine.deliver(1, None, 100, false) {
         Ok(()) => follows(rt, till, TillNote::Recorded(number(rt, 1))),
         Err(why) => refused(rt, why),
     }

@@ -29,10 +29,13 @@ pub enum Plain {
     Raise,
     Cancel,
     Deliver,
+    // over one link, as long as receipts wait
+    DeliverAll,
     Refuse,
     Keep,
     FailWith,
     FailWithout,
+    FailWithBoth,
     Connect,
     Miss,
     Put,
@@ -40,6 +43,7 @@ pub enum Plain {
     Hear,
     End,
     HangUp,
+    News,
     Tell,
     Feed,
     HandOver,
@@ -111,7 +115,17 @@ fn told(plain: Plain) -> Happening {
         Plain::Hear => Happening::Hear(99),
         Plain::End => Happening::End(SendFault::Ended),
         Plain::HangUp => Happening::HangUp,
+        Plain::News => Happening::News,
         _ => Happening::Tell,
+    }
+}
+
+fn deliver(further: bool) -> Happening {
+    Happening::Deliver {
+        openings: 1,
+        most: 99,
+        copy: None,
+        further,
     }
 }
 
@@ -128,15 +142,13 @@ pub fn happening(rt: &impl Abort, alloc: Global, plain: Plain) -> Happening {
         },
         Plain::Raise => Happening::Raise(5),
         Plain::Cancel => Happening::Cancel(number(rt, 1)),
-        Plain::Deliver => Happening::Deliver {
-            openings: 1,
-            most: 99,
-            copy: None,
-        },
+        Plain::Deliver => deliver(false),
+        Plain::DeliverAll => deliver(true),
         Plain::Refuse => Happening::Refuse,
         Plain::Keep => Happening::Keep,
         Plain::FailWith => Happening::FailWith(StoreFault::Failed),
         Plain::FailWithout => Happening::FailWithout(StoreFault::Failed),
+        Plain::FailWithBoth => Happening::FailWithBoth(StoreFault::Failed),
         Plain::Idle => Happening::Idle,
         Plain::Crash => Happening::Crash,
         Plain::Feed | Plain::HandOver | Plain::Leave | Plain::Restart | Plain::Close => {

@@ -264,7 +264,7 @@ pub fn starts(
         None => None,
     };
     till.around.line.answers = answers;
-    assert!(rt; till.machine.deliver(openings, text.as_ref(), 100) == Ok(()));
+    assert!(rt; till.machine.deliver(openings, text.as_ref(), 100, false) == Ok(()));
 }
 
 // The first receipt that waits is delivered, as a copy if it was tried before. The printer answers this, and it is told what came of
@@ -286,7 +286,7 @@ pub fn has_sent(rt: &impl Abort, till: &DrivenTill, out: &[u8]) {
 }
 
 pub fn nothing_waits(rt: &impl Abort, till: &mut DrivenTill) {
-    assert!(rt; till.machine.deliver(1, None, 100) == Err(TillRefusal::NothingWaits));
+    assert!(rt; till.machine.deliver(1, None, 100, false) == Err(TillRefusal::NothingWaits));
 }
 
 // Its store has failed, and the machine refuses all.
@@ -297,7 +297,7 @@ pub fn refuses_all(rt: &impl Abort, alloc: Global, till: &mut DrivenTill) {
     }
     assert!(rt; till.machine.raise(9) == Err(TillRefusal::Failed));
     assert!(rt; till.machine.cancel(number(rt, 1)) == Err(TillRefusal::Failed));
-    assert!(rt; till.machine.deliver(1, None, 100) == Err(TillRefusal::Failed));
+    assert!(rt; till.machine.deliver(1, None, 100, false) == Err(TillRefusal::Failed));
     assert!(rt; drives(till, 1_000) == None);
 }
 

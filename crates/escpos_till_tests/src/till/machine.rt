@@ -108,7 +108,7 @@ fn tries(rt: &impl Abort, machine: &mut TillMachine, copy: Option<&[u8]>, next: 
         Some(text) => Some(CopyText::new(text).expect(rt, "a text")),
         None => None,
     };
-    assert!(rt; machine.deliver(1, text.as_ref(), 100) == Ok(()));
+    assert!(rt; machine.deliver(1, text.as_ref(), 100, false) == Ok(()));
     match machine.asks() {
         Action::Connect => machine.connected(true),
         _ => panic!(rt; "no link wanted"),
@@ -145,13 +145,13 @@ fn keeps(rt: &impl Abort, machine: &mut TillMachine) {
 #[test]
 fn machine_records(rt: HostRuntime) {
     let mut machine = machine_of(&rt, rt.alloc(), &[]);
-    assert!(&rt; machine.deliver(1, None, 100) == Err(TillRefusal::NothingWaits));
+    assert!(&rt; machine.deliver(1, None, 100, false) == Err(TillRefusal::NothingWaits));
     takes(&rt, rt.alloc(), &mut machine, 1);
     tries(&rt, &mut machine, None, 2);
     records(&rt, &mut machine);
     assert!(&rt; machine.states() == [ReceiptState::Recorded { place: 0 }].as_slice());
     assert!(&rt; machine.next_mark() == 2);
-    assert!(&rt; machine.deliver(1, None, 100) == Err(TillRefusal::NothingWaits));
+    assert!(&rt; machine.deliver(1, None, 100, false) == Err(TillRefusal::NothingWaits));
 }
 
 // There is no link; the link ends; too much is said: the receipt waits, and is tried again as a copy.
@@ -160,7 +160,7 @@ fn machine_gives_up(rt: HostRuntime) {
     let mut machine = machine_of(&rt, rt.alloc(), &[]);
     takes(&rt, rt.alloc(), &mut machine, 1);
     let first = number(&rt, 1);
-    assert!(&rt; machine.deliver(1, None, 100) == Ok(()));
+    assert!(&rt; machine.deliver(1, None, 100, false) == Ok(()));
     machine.connected(false);
     tells(&rt, &mut machine, TillNote::NoLink(first));
     tries(&rt, &mut machine, None, 2);
@@ -279,7 +279,7 @@ fn machine_hears_of_another(rt: HostRuntime) {
         },
     ];
     let mut machine = machine_of(&rt, rt.alloc(), &entries);
-    assert!(&rt; machine.deliver(1, None, 100) == Ok(()));
+    assert!(&rt; machine.deliver(1, None, 100, false) == Ok(()));
     machine.connected(true);
     match machine.asks() {
         Action::Append(entry) => assert!(&rt; is_tried(entry, second, 4)),
@@ -307,7 +307,7 @@ fn machine_fails(rt: HostRuntime) {
     machine.appended(Err(StoreFault::Failed));
     tells(&rt, &mut machine, TillNote::NotKept(StoreFault::Failed));
     assert!(&rt; machine.raise(9) == Err(TillRefusal::Failed));
-    assert!(&rt; machine.deliver(1, None, 100) == Err(TillRefusal::Failed));
+    assert!(&rt; machine.deliver(1, None, 100, false) == Err(TillRefusal::Failed));
     assert!(&rt; machine.next_mark() == 0);
 }
 
@@ -328,7 +328,7 @@ fn machine_goes_on(rt: HostRuntime) {
     let mut machine = machine_of(&rt, rt.alloc(), &entries);
     assert!(&rt; machine.states() == [ReceiptState::Waiting { tried: 1 }].as_slice());
     let used_up = TillRefusal::MarksUsedUp { number: first };
-    assert!(&rt; machine.deliver(1, None, 100) == Err(used_up));
+    assert!(&rt; machine.deliver(1, None, 100, false) == Err(used_up));
     let reused = TillRefusal::MarkReused { next: 1_679_615 };
     assert!(&rt; machine.raise(5) == Err(reused));
 }
@@ -347,7 +347,7 @@ fn machine_raises_no_higher(rt: HostRuntime) {
     let used_up = TillRefusal::MarksUsedUp {
         number: number(&rt, 1),
     };
-    assert!(&rt; machine.deliver(2, None, 100) == Err(used_up));
+    assert!(&rt; machine.deliver(2, None, 100, false) == Err(used_up));
     tries(&rt, &mut machine, None, 1_679_616);
 }
 
@@ -388,7 +388,7 @@ fn machine_takes_many(rt: HostRuntime) {
 fn machine_puts_three_openings(rt: HostRuntime) {
     let mut machine = machine_of(&rt, rt.alloc(), &[Entry::Raised { next: 7 }]);
     takes(&rt, rt.alloc(), &mut machine, 1);
-    assert!(&rt; machine.deliver(3, None, 100) == Ok(()));
+    assert!(&rt; machine.deliver(3, None, 100, false) == Ok(()));
     machine.connected(true);
     match machine.asks() {
         Action::Append(entry) => assert!(&rt; is_tried(entry, number(&rt, 1), 11)),

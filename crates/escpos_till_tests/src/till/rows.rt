@@ -159,9 +159,9 @@ fn raises_to_the_last(rt: &impl Abort, alloc: Global, till: &mut DrivenTill) {
     raises(rt, till, 1_679_614);
     let number = number(rt, 1);
     let used_up = Err(TillRefusal::MarksUsedUp { number });
-    assert!(rt; till.machine.deliver(2, None, 100) == used_up);
+    assert!(rt; till.machine.deliver(2, None, 100, false) == used_up);
     tries_in_vain(rt, till, 1, (1, b"ZZZY"));
-    assert!(rt; till.machine.deliver(1, None, 100) == used_up);
+    assert!(rt; till.machine.deliver(1, None, 100, false) == used_up);
     assert!(rt; drives(till, 1_000) == None);
     assert!(rt; till.around.line.hang_ups == 2);
     stands(rt, till, &[TWICE], 1_679_616);

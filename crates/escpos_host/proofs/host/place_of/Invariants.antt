@@ -4,4 +4,4 @@ use Rattle.escpos_host.specs.Kept.{HasIdAmong}
 use Rattle.escpos_host.proofs.host.place_of.Given as goal
 
 abbrev pub invariant-loop-place : goal.invariant-loop-place
-invariant-loop-place l = record { none : HasIdAmong (take l.place l.numbers) l.id → ⊥ }
+invariant-loop-place l = record { none : HasIdAmong l.least (take l.place l.numbers) l.id → ⊥ }

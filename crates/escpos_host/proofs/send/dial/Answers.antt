@@ -1,10 +1,9 @@
 -- Each opening mark is one more.
-use Rattle.std.proofs.Common.{◌≡◌, ◌<◌, ◌+◌, arith, max, ◌∙◌, ap, subst}
+use Rattle.std.proofs.Common.{◌≡◌, arith, max, ◌∙◌, ap, subst}
 use Rattle.std.proofs.Math.Nat.{le-max_left, max-le}
-use Rattle.escpos_command.specs.Digits.{mark_count}
 use Rattle.escpos_host.specs.Awaits.{dialled_by}
-use Rattle.escpos_host.specs.Machine.{HostView, nudged}
-use Rattle.escpos_host.proofs.Dialling.{dialled_more, dialled_next}
+use Rattle.escpos_host.specs.Machine.{HasMark, nudged}
+use Rattle.escpos_host.proofs.Dialling.{dialled_has, dialled_more}
 use Rattle.escpos_host.proofs.send.dial.Goals as goal
 
 pub loop-preserved : goal.loop-preserved
@@ -13,8 +12,7 @@ loop-preserved c =
     let few = c.loop-test.true in
     let most = le-max_left c.args.openings 1 in
     let nudge = c.in_default.ensures.nudged in
-    let left : c.args.host.now.next + c.loop.counter < mark_count =
-    subst (λ next. next < mark_count) (ap (λ (h : HostView). h.next) c.loop.invariant.dialled ∙ dialled_next c.args.reporting c.args.host.now c.loop.counter) nudge.1 in
+    let left = dialled_has c.args.reporting c.args.host.now c.loop.counter (subst HasMark c.loop.invariant.dialled nudge.1) in
     record {
       down = c.loop.invariant.down;
       some = omega (arith, before);

@@ -1,7 +1,6 @@
 -- Each event is heard after what was overlooked before it.
 use Rattle.std.proofs.Common.{◌≡◌, ◌<◌, ◌≤◌, ◌+◌, true, false, arith, length, take, refl, sym, ◌∙◌, ap}
-use Rattle.escpos_host.specs.Awaits.{Overlooked}
-use Rattle.escpos_host.specs.Heard.{with_half}
+use Rattle.escpos_host.specs.Awaits.{Overlooked, waited}
 use Rattle.escpos_host.specs.Machine.{HostView}
 use Rattle.escpos_host.proofs.Waiting.{hears_out, overlooked_none, told_on}
 use Rattle.escpos_command.proofs.AnswerReadings.{joined}
@@ -13,7 +12,7 @@ loop-heard-init c = record { up = c.requires; inside = omega arith; overlooked =
 next : (c : goal.Then-is_overlooked)
     → (c.loop-heard.taken + c.heard-heard.result.consumed ≤ length c.args.bytes.now)
     × Overlooked c.args.host.now (take (c.loop-heard.taken + c.heard-heard.result.consumed) c.args.bytes.now) c.heard-heard.new.self.half
-    × (c.heard-heard.new.self ≡ with_half c.args.host.now c.heard-heard.new.self.half) × (0 < c.heard-heard.result.consumed)
+    × (c.heard-heard.new.self ≡ waited c.args.host.now c.heard-heard.new.self.half c.heard-heard.new.self.heard) × (0 < c.heard-heard.result.consumed)
 next c =
     told_on joined c.args.host.now c.loop-heard.host c.heard-heard.new.self c.args.bytes.now c.loop-heard.taken c.heard-heard.result.consumed c.heard-heard.result.event
     (c.is_overlooked.ensures.0 c.if-is_overlooked.true)

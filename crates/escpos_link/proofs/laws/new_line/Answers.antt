@@ -6,7 +6,7 @@ use Rattle.escpos_link.proofs.WayKept.{begun_line}
 use Rattle.escpos_link.proofs.laws.new_line.Goals as goal
 
 pub returns : goal.returns
-returns c = λ h w first width host sheet half waiting ended live coming. (
+returns c = λ h w first heard width less host sheet half waiting ended live coming. (
   begun_line (line_of h w) (ap (λ (v : HostView). v.half) host) waiting ended live coming,
-  begun width (line_of h w) first host sheet half waiting ended live coming,
+  begun width (line_of h w) first heard less host sheet half waiting ended live coming,
 )

@@ -8,5 +8,5 @@ returns c = record {
   one_hearing = c.answers.ensures.one_hearing;
   init = c.initialisation.ensures;
   marks = c.marks.ensures;
-  ids = c.mark_numbers.ensures.ids;
+  ids = c.counted_marks.ensures.ids;
 }

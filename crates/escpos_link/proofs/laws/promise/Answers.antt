@@ -18,12 +18,12 @@ returns c =
         resynchronisation = c.resynchronisation.ensures;
         reporting = λ half q more cs rest left begun is reads. c.reporting.ensures half q more all_but_drawer cs rest left (λ e. cc) begun is reads;
       };
-      numbers = record { ids = c.mark_numbers.ensures.ids; one_number = c.mark_numbers.ensures.one_number };
+      numbers = record { ids = c.counted_marks.ensures.ids; apart = c.counted_marks.ensures.apart };
       paper = record { init = c.initialisation.ensures; grows = c.paper_grows.ensures };
       answers = record { no_prefix = c.answers.ensures.no_prefix; joined = c.answers.ensures.joined; cut = c.answers.ensures.cut };
     } in
     record {
-      made = λ l rs p n t least few mark. made_promised l.printer.sheet.line_dots laws l rs p n t.on_way least few mark;
+      made = λ l rs p n t least near mark. made_promised l.printer.sheet.line_dots laws l rs p n t.on_way least near mark;
       in_flight = λ l p t is. only_promised l.printer.sheet.line_dots laws l p t.on_way is;
       stays = λ e l after n rs p fits sound i happened t other w.
           still_promised l after rs p (trusted l.printer.sheet.line_dots laws e l after n fits sound i happened t).on_way

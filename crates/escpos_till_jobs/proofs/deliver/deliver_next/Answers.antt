@@ -4,7 +4,7 @@ use Rattle.escpos_till.specs.Machine.{RefusesDeliver}
 use Rattle.escpos_till.specs.Surroundings.{Did}
 use Rattle.escpos_till_jobs.specs.Delivering.{asked}
 use Rattle.escpos_till_jobs.specs.Outputs.{output_of}
-use Rattle.escpos_till_jobs.specs.Pauses.{BecomesWith}
+use Rattle.escpos_till_jobs.specs.News.{BecomesWith}
 use Rattle.escpos_till_jobs.proofs.LinkLines.{both_ok, if_err_so, ok_so}
 use Rattle.escpos_till_jobs.proofs.Rounds.{note_ends, round_failed, round_goes, round_over}
 use Rattle.escpos_till_jobs.proofs.deliver.deliver_next.Goals as goal

@@ -1,7 +1,7 @@
 -- What was done so far, and so much as may still be done.
 use Rattle.escpos_till.specs.Surroundings.{Did}
 use Rattle.escpos_till_jobs.specs.Outputs.{output_of}
-use Rattle.escpos_till_jobs.proofs.Pausing.{Following}
+use Rattle.escpos_till_jobs.proofs.Telling.{Following}
 use Rattle.escpos_till_jobs.proofs.following.follow_telling.Given as goal
 
 abbrev pub invariant-loop-left : goal.invariant-loop-left

@@ -9,7 +9,7 @@ use Rattle.escpos_till_model.proofs.Served.{asked_around, asked_come}
 use Rattle.escpos_till_model.proofs.laws.a_driver_uses_marks_once.Goals as goal
 
 pub returns-clause-ran : goal.returns-clause-ran
-returns-clause-ran g c = λ w m after a new ran come is. uses_once c.mark_numbers.ensures.ids c.every_world.ensures ran.deeds m after a new w come is ran.did_all
+returns-clause-ran g c = λ w m after a new ran come is. uses_once c.counted_marks.ensures.ids c.every_world.ensures ran.deeds m after a new w come is ran.did_all
 
 pub returns-clause-served : goal.returns-clause-served
 returns-clause-served g c = λ world m after old new call n most wire left it may.
@@ -18,7 +18,7 @@ returns-clause-served g c = λ world m after old new call n most wire left it ma
     let known = c.every_world.ensures it.come.first world it.come.happenings it.come.begins it.come.runs in
     let all = does_all g.S.Store.faithful g.S.Store.holds g.S.Store.leaves g.S.Store.says g.L.PrinterLine.did g.met.S.Store.outlives (it.serves.runs.before ++ Tells n ∷ []) asked after old new world.kept left world.wire wire world.told
     it.serves.runs.did_all it.store may it.line in
-    uses_once c.mark_numbers.ensures.ids c.every_world.ensures (it.serves.runs.before ++ Tells n ∷ []) asked after (around world.kept world.wire world.told) _ next
+    uses_once c.counted_marks.ensures.ids c.every_world.ensures (it.serves.runs.before ++ Tells n ∷ []) asked after (around world.kept world.wire world.told) _ next
     (asked_come c.fitting.ensures world m asked _ call it.come known it.is it.serves.calls it.may) (asked_around world m asked _ call it.is it.serves.calls) all
 
 pub returns-clause-given_up : goal.returns-clause-given_up
@@ -28,7 +28,7 @@ returns-clause-given_up g c = λ world m after old new call most wire left it ma
     let run = it.gives.runs.run in
     let known = c.every_world.ensures it.come.first world it.come.happenings it.come.begins it.come.runs in
     let all = does_all g.S.Store.faithful g.S.Store.holds g.S.Store.leaves g.S.Store.says g.L.PrinterLine.did g.met.S.Store.outlives run.deeds asked after old new world.kept left world.wire wire world.told run.did_all it.store may it.line in
-    uses_once c.mark_numbers.ensures.ids c.every_world.ensures run.deeds asked after (around world.kept world.wire world.told) _ next
+    uses_once c.counted_marks.ensures.ids c.every_world.ensures run.deeds asked after (around world.kept world.wire world.told) _ next
     (asked_come c.fitting.ensures world m asked _ call it.come known it.is it.gives.calls it.may) (asked_around world m asked _ call it.is it.gives.calls) all
 
 pub returns-clause-both : goal.returns-clause-both

@@ -12,6 +12,6 @@ pub returns-clause-nothing_waits : goal.returns-clause-nothing_waits
 returns-clause-nothing_waits c = λ m entries openings ledger book (rest, none) receipt among. all_ended entries ledger (none entries book) receipt among
 
 pub returns-clause-delivers : goal.returns-clause-delivers
-returns-clause-delivers c = λ m asked entries openings most copy book it.
+returns-clause-delivers c = λ m asked entries openings most copy further book it.
     let due = it.next.first entries book in
     (due.content, first_among _ _ due.first.first)

@@ -10,6 +10,6 @@ returns c =
     let h = c.self.inside in
     let kept : c.truncate.new.self.items ≡ put_of h.receipts.items h.recorded h.closing.items =
     c.truncate.ensures.items ∙ ap (λ n. take (h.recorded + n) h.receipts.items) c.len.ensures.value in
-    ap (λ rs. view_of h.stage rs h.recorded h.closing.items c.clear.new.self.items h.out h.reader h.next) kept
-    ∙ without_left h.stage h.receipts.items h.recorded h.closing.items h.left.items c.clear.new.self.items h.out h.reader h.next c.clear.ensures
+    ap (λ rs. view_of h.stage rs h.recorded h.closing.items c.clear.new.self.items h.out h.reader h.next h.oldest) kept
+    ∙ without_left h.stage h.receipts.items h.recorded h.closing.items h.left.items c.clear.new.self.items h.out h.reader h.next h.oldest c.clear.ensures
     ∙ ap (λ v. with_left v []) c.self.view_is

@@ -10,7 +10,7 @@ pub returns-in-Ok-Some : goal.returns-in-Ok-Some
 returns-in-Ok-Some c =
     let h = c.self.inside in
     let whole = c.push.ensures.whole c.in-Ok-Some.answer (c.in-Ok-Some.is ∙ ap Ok c.in-Ok-Some.field-0-is) in
-    let before = ap (λ r. view_of h.stage h.receipts.items h.recorded h.closing.items h.left.items h.out r h.next) whole.0 ∙ ap (λ v. with_half v []) c.self.view_is in
+    let before = ap (λ r. view_of h.stage h.receipts.items h.recorded h.closing.items h.left.items h.out r h.next h.oldest) whole.0 ∙ ap (λ v. with_half v []) c.self.view_is in
     inr (inr (
       c.in-Ok-Some.answer,
       subst (λ half. AnswerSpells c.in-Ok-Some.answer (half ++ c.args.byte ∷ [])) (ap (λ (v : HostView). v.half) c.self.view_is) whole.1,

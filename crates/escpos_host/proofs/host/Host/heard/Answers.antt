@@ -15,7 +15,7 @@ loop-at-init c =
     let h = c.self.inside in
     let sound = subst (λ half. (half ≡ []) ⊎ HalfAnswer half) (ap (λ (v : HostView). v.half) c.self.view_is) c.is_sound.ensures in
     record {
-      up = λ e. is_up h.stage h.receipts.items h.recorded h.closing.items h.left.items h.out h.reader h.next c.in_default.not-Down (ap (λ (v : HostView). v.phase) c.self.view_is ∙ e);
+      up = λ e. is_up h.stage h.receipts.items h.recorded h.closing.items h.left.items h.out h.reader h.next h.oldest c.in_default.not-Down (ap (λ (v : HostView). v.phase) c.self.view_is ∙ e);
       passed = none_passed c.args.self.now sound;
       same = refl;
     }

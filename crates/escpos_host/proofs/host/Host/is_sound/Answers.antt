@@ -10,4 +10,4 @@ returns c =
     let few = subst (λ n. n ≤ 4) c.len.ensures.value c.len.ensures.fits in
     let few_left = subst (λ n. n ≤ 4) c.len-2.ensures.value c.len-2.ensures.fits in
     subst IsSound c.self.view_is
-    (sound h.stage h.receipts.items h.recorded h.closing.items h.left.items h.out h.reader h.next c.self.invariant few few_left c.is_sound.ensures)
+    (sound h.stage h.receipts.items h.recorded h.closing.items h.left.items h.out h.reader h.next h.oldest c.self.invariant few few_left c.is_sound.ensures)

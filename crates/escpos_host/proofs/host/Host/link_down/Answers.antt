@@ -24,13 +24,13 @@ fits_cut receipts cut recorded marks before left none out cleared half no_half k
     (subst (λ ns. IsConsistent stage.Down (put_of receipts recorded marks) recorded none ns cleared no_half) (sym k.left_are)
     (fits_open_down receipts recorded marks before none out cleared half no_half fits k.nothing empty no_more))
 
-view_cut : (receipts cut : List (List Command)) (recorded : ℕ) (marks before left none : List ℕ) (out cleared : Pending) (half no_half : List ℕ) (next : ℕ)
+view_cut : (receipts cut : List (List Command)) (recorded : ℕ) (marks before left none : List ℕ) (out cleared : Pending) (half no_half : List ℕ) (next heard : ℕ)
     → Kept receipts cut recorded marks left none → ((rs : List (List Command)) → unsent rs cleared ≡ []) → no_half ≡ []
-    → view_of stage.Down cut recorded none left cleared no_half next ≡ gone_down (view_of stage.Open receipts recorded marks before out half next)
-view_cut receipts cut recorded marks before left none out cleared half no_half next k empty no_more =
-    ap (λ rs. view_of stage.Down rs recorded none left cleared no_half next) k.put
-    ∙ ap (λ ns. view_of stage.Down (put_of receipts recorded marks) recorded none ns cleared no_half next) k.left_are
-    ∙ open_goes_down receipts recorded marks before none out cleared half no_half next k.nothing empty no_more
+    → view_of stage.Down cut recorded none left cleared no_half next heard ≡ gone_down (view_of stage.Open receipts recorded marks before out half next heard)
+view_cut receipts cut recorded marks before left none out cleared half no_half next heard k empty no_more =
+    ap (λ rs. view_of stage.Down rs recorded none left cleared no_half next heard) k.put
+    ∙ ap (λ ns. view_of stage.Down (put_of receipts recorded marks) recorded none ns cleared no_half next heard) k.left_are
+    ∙ open_goes_down receipts recorded marks before none out cleared half no_half next heard k.nothing empty no_more
 
 pub invariant_of-self : goal.invariant_of-self
 invariant_of-self c =
@@ -56,7 +56,7 @@ invariant_of-self c =
 
 gone : (c : goal.After-clear-3)
     → view_of stage.Down c.match-self-2.self-inside.receipts.items c.match-self-2.self-inside.recorded c.match-self-2.self-inside.closing.items c.match-self-2.self-inside.left.items
-    c.clear-2.new.self c.clear-3.new.self c.match-self-2.self-inside.next ≡ gone_down c.args.self.now
+    c.clear-2.new.self c.clear-3.new.self c.match-self-2.self-inside.next c.match-self-2.self-inside.oldest ≡ gone_down c.args.self.now
 gone c =
     let h = c.self.inside in
     elim c.match-self-2.branch [
@@ -66,13 +66,13 @@ gone c =
             left_are = ap (λ v. v.items) w.swap.ensures.x_after;
             nothing = w.clear.ensures;
           } in
-          ap (λ (v : Inside). view_of stage.Down v.receipts.items v.recorded v.closing.items v.left.items c.clear-2.new.self c.clear-3.new.self v.next) w.self-inside-is
+          ap (λ (v : Inside). view_of stage.Down v.receipts.items v.recorded v.closing.items v.left.items c.clear-2.new.self c.clear-3.new.self v.next v.oldest) w.self-inside-is
           ∙ view_cut h.receipts.items w.truncate.new.self.items h.recorded h.closing.items h.left.items w.swap.new.x.items w.clear.new.self.items h.out c.clear-2.new.self h.reader c.clear-3.new.self
-          h.next k c.clear-2.ensures.unsent c.clear-3.ensures
-          ∙ ap (λ s. gone_down (view_of s h.receipts.items h.recorded h.closing.items h.left.items h.out h.reader h.next)) (sym w.in-Open.is) ∙ ap gone_down c.self.view_is
+          h.next h.oldest k c.clear-2.ensures.unsent c.clear-3.ensures
+          ∙ ap (λ s. gone_down (view_of s h.receipts.items h.recorded h.closing.items h.left.items h.out h.reader h.next h.oldest)) (sym w.in-Open.is) ∙ ap gone_down c.self.view_is
       | in_default-stage w ↦
-          ap (λ (v : Inside). view_of stage.Down v.receipts.items v.recorded v.closing.items v.left.items c.clear-2.new.self c.clear-3.new.self v.next) w.self-inside-is
-          ∙ other_goes_down h.stage h.receipts.items h.recorded h.closing.items h.left.items h.out c.clear-2.new.self h.reader c.clear-3.new.self h.next w.in_default-stage.not-Open
+          ap (λ (v : Inside). view_of stage.Down v.receipts.items v.recorded v.closing.items v.left.items c.clear-2.new.self c.clear-3.new.self v.next v.oldest) w.self-inside-is
+          ∙ other_goes_down h.stage h.receipts.items h.recorded h.closing.items h.left.items h.out c.clear-2.new.self h.reader c.clear-3.new.self h.next h.oldest w.in_default-stage.not-Open
           c.clear-2.ensures.unsent c.clear-3.ensures ∙ ap gone_down c.self.view_is
     ]
 
@@ -81,5 +81,5 @@ returns c =
     let h = c.self.inside in
     record {
       up = λ _. gone c;
-      down = λ e. absurd (is_up h.stage h.receipts.items h.recorded h.closing.items h.left.items h.out h.reader h.next c.in_default.not-Down (ap (λ (v : HostView). v.phase) c.self.view_is ∙ e));
+      down = λ e. absurd (is_up h.stage h.receipts.items h.recorded h.closing.items h.left.items h.out h.reader h.next h.oldest c.in_default.not-Down (ap (λ (v : HostView). v.phase) c.self.view_is ∙ e));
     }

@@ -21,12 +21,12 @@ pub returns-clause-up : goal.returns-clause-up
 returns-clause-up c =
     let h = c.self.inside in
     let put = put_of h.receipts.items h.recorded h.closing.items in
-    let before = ap (λ s. view_of s h.receipts.items h.recorded h.closing.items h.left.items h.out h.reader h.next) (sym c.in-Down.is) ∙ c.self.view_is in
+    let before = ap (λ s. view_of s h.receipts.items h.recorded h.closing.items h.left.items h.out h.reader h.next h.oldest) (sym c.in-Down.is) ∙ c.self.view_is in
     let fits : IsConsistent stage.Down h.receipts.items h.recorded h.closing.items h.left.items h.out h.reader =
     subst (λ s. IsConsistent s h.receipts.items h.recorded h.closing.items h.left.items h.out h.reader) c.in-Down.is c.self.invariant in (
       sym (ap (λ (v : HostView). v.phase) before),
       subst HasMark c.self.view_is c.in-Some.ensures.0,
-      comes_up c.args.reporting h.receipts.items h.recorded h.closing.items h.left.items h.out c.push.new.self h.reader h.next c.in-Some.mark fits c.in-Some.ensures.1
+      comes_up c.args.reporting h.receipts.items h.recorded h.closing.items h.left.items h.out c.push.new.self h.reader h.next h.oldest c.in-Some.mark fits c.in-Some.ensures.1
           (succeeded c.push.result c.if-is_err.ensures.value c.push.ensures.unsent put (fits.stage.1 put).0
           ∙ ap (λ cs. unsent put h.out ++ spell cs) (c.opening.ensures.commands put)) ∙ ap (linked_by c.args.reporting) before,
     )

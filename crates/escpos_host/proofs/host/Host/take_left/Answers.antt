@@ -17,5 +17,5 @@ returns-clause-rest c =
     let h = c.self.inside in
     let some = some_of h.left.items (sym c.is_empty.ensures ∙ c.if-is_empty.false) in
     let count = c.self.invariant.count in
-    without_first h.stage h.receipts.items c.remove-2.new.self.items h.recorded h.closing.items h.left.items c.remove.new.self.items h.out h.reader h.next (omega (arith, count, some))
+    without_first h.stage h.receipts.items c.remove-2.new.self.items h.recorded h.closing.items h.left.items c.remove.new.self.items h.out h.reader h.next h.oldest (omega (arith, count, some))
     (c.remove-2.ensures.items ∙ ap (λ n. remove h.receipts.items (h.recorded + n)) c.len.ensures.value) c.remove.ensures.items ∙ ap handed_out c.self.view_is

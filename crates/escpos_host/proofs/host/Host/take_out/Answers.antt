@@ -43,5 +43,5 @@ returns c =
     record {
       count = c.take_out.ensures.count ∙ ap (λ bs. min (length c.args.out.now) (length bs)) shown;
       copied = c.take_out.ensures.copied ∙ ap (λ bs. take count bs ++ drop count c.args.out.now) shown;
-      taken = is_taken h.stage h.receipts.items h.recorded h.closing.items h.left.items h.out c.take_out.new.self h.reader h.next count rest ∙ ap (λ v. taken_out v count) c.self.view_is;
+      taken = is_taken h.stage h.receipts.items h.recorded h.closing.items h.left.items h.out c.take_out.new.self h.reader h.next h.oldest count rest ∙ ap (λ v. taken_out v count) c.self.view_is;
     }

@@ -1,4 +1,4 @@
-use Rattle.std.proofs.Common.{length, sym, ◌∙◌, subst, arith}
+use Rattle.std.proofs.Common.{length, sym, ◌∙◌, subst}
 use Rattle.escpos_host.specs.Machine.{IsSound}
 use Rattle.escpos_link.specs.Line.{IsLine, LineView}
 use Rattle.escpos_link.specs.Straight.{WentStraight}
@@ -16,7 +16,7 @@ returns-in-Err-clause-stopped c =
     let page = c.paper.ensures.reached in
     let sound = subst (λ (v : LineView). IsSound v.host) c.self.view_is c.is_sound.ensures in
     let b = begun c.of_straight.ensures c.args.self.now c.open.new.self page.0 page.1 c.requires (subst IsLine c.self.view_is c.self.invariant.0) sound page.2 opened in
-    stopped_submitting c.args.self.now c.open.new.self c.step.new.self c.args.receipt c.in-Err.refused opened b.ready.phase (omega (arith, b.next, c.requires.marks)) c.in-Err.ensures.refused
+    stopped_submitting c.args.self.now c.open.new.self c.step.new.self c.args.receipt c.in-Err.refused opened b.ready.phase b.has c.in-Err.ensures.refused
 
 pub returns-in-Ok-clause-recorded : goal.returns-in-Ok-clause-recorded
 returns-in-Ok-clause-recorded c =

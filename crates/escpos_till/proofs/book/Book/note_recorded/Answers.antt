@@ -24,7 +24,7 @@ first_waiting_from-self-requires-clause-passed c k s before is =
     passed_after_end c.args.self.now.states.items c.args.self.now.first_waiting (c.get-place.result - 1) (state.Recorded c.args.self.now.recorded) tt c.requires.follows.1.first_waiting k s before
     (ap (λ (ss : List ReceiptState). slice_get ss k) (sym c.deref.ensures.value) ∙ is)
 
-pub returns : goal.returns
-returns c entries book ledger follows =
+pub returns-clause-notes : goal.returns-clause-notes
+returns-clause-notes c entries book ledger follows =
     book_after_recorded c.args.self.now _ entries _ c.args.number c.get-place.result book follows refl c.get-place.ensures.value c.new-2.result refl refl
     (subst (λ (ss : List ReceiptState). IsFirstWaiting ss c.first_waiting_from-self.result) c.deref.ensures.value c.first_waiting_from-self.ensures) refl refl refl refl refl refl

@@ -21,6 +21,7 @@ invariant_of-self c =
         λ content is. absurd (let bad : entry.Cancelled c.args.number ≡ entry.Queued content = is in cc),
         λ number next is. absurd (let bad : entry.Cancelled c.args.number ≡ entry.Tried number next = is in cc),
         λ content is. absurd (let bad : then.Cancelled c.args.number c.in-Some-Waiting.tried ≡ then.Take content = is in cc),
+        tt,
       );
     }
 

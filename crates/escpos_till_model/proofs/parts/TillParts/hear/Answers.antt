@@ -3,7 +3,7 @@ use Rattle.escpos_link.specs.Wire.{given_up}
 use Rattle.escpos_till.specs.Machine.{Came}
 use Rattle.escpos_till_model.specs.declared.event.Happening.TheVariants as event
 use Rattle.escpos_till_model.specs.Instead.{Talks}
-use Rattle.escpos_till_model.specs.Known.{Linked}
+use Rattle.escpos_till.specs.Machine.{IsLinked as Linked}
 use Rattle.escpos_till_model.proofs.TillWorlds.{hears_in, not_asked_in}
 use Rattle.escpos_till_model.proofs.parts.TillParts.hear.Goals as goal
 

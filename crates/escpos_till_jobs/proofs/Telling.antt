@@ -1,4 +1,4 @@
--- A call that is followed from pause to pause.
+-- A call that is followed from news to news.
 use Rattle.std.proofs.Common.{ℕ, Bool, true, false, ◌≡◌, ◌+◌, ◌≤◌, List, [], ◌∷◌, ◌++◌, length, inl, inr, refl, sym, ◌∙◌, ap, subst, arith, append-nil, append_assoc, length-append}
 use Rattle.std.specs.Prelude.{IsTrue, ◌⊎◌}
 use Rattle.std.proofs.KnownBytes.{Appends-trans}
@@ -6,16 +6,16 @@ use Rattle.escpos_till.specs.declared.machine.TillNote.{TillNote}
 use Rattle.escpos_till.specs.declared.machine.TillNote.TheVariants as note
 use Rattle.escpos_till.specs.declared.machine.TillRefusal.{TillRefusal}
 use Rattle.escpos_till.specs.declared.pause.Pause.{Pause}
-use Rattle.escpos_till.specs.Driver.{Breaks, Call, Calls, Deed, DidAll, Ends, Gives, HangsUp, IsSaid, Keeps, Learns, Links, Loses, Misses, Pauses, Puts, RanQuietly, RanUpTo, SaysNothing, Tells, TellsNothing}
+use Rattle.escpos_till.specs.Driver.{Breaks, Call, Calls, Confirms, Deed, DidAll, Ends, Gives, HangsUp, IsSaid, IsTold, Keeps, Learns, Links, Loses, Misses, Pauses, Puts, RanQuietly, RanUpTo, SaysNothing, Tells, TellsNothing}
 use Rattle.escpos_till.proofs.DriverLemmas.{not_told as says_and_tells_nothing}
-use Rattle.escpos_till.specs.Machine.{IsFinal, MachineView, Rests}
+use Rattle.escpos_till.specs.Machine.{MachineView, Rests}
 use Rattle.escpos_till_jobs.specs.declared.outcome.Outcome.{Outcome}
 use Rattle.escpos_till_jobs.specs.declared.outcome.Outcome.TheVariants as outcome
 use Rattle.escpos_till_jobs.specs.declared.outcome.TheConstants.{MOST_DEEDS}
-use Rattle.escpos_till_jobs.specs.Lines.{IsPauseNote, pause_line, pause_text}
+use Rattle.escpos_till_jobs.specs.Lines.{news_text, pause_line, recorded_line}
 use Rattle.escpos_till_jobs.specs.Outcomes.{Follows}
 use Rattle.escpos_till_jobs.specs.Outputs.{Output, Took}
-use Rattle.escpos_till_jobs.specs.Pauses.{BecomesWith, FollowsWith, TellsPauses, pause_lines}
+use Rattle.escpos_till_jobs.specs.News.{BecomesWith, FollowsWith, TellsNews, news_lines}
 
 -- ## Rows of deeds
 
@@ -34,11 +34,12 @@ silent_quiet [] silent = tt
 silent_quiet (d ∷ ds) silent = (says_and_tells_nothing d silent.0, silent_quiet ds silent.1)
 
 -- Deeds by which nothing is said have no line.
-silent_first : (d : Deed) (ds : List Deed) → (IsSaid d → ⊥) → pause_lines (d ∷ ds) ≡ pause_lines ds
+silent_first : (d : Deed) (ds : List Deed) → (IsSaid d → ⊥) → news_lines (d ∷ ds) ≡ news_lines ds
 silent_first (Tells n) ds never = absurd (never tt)
 silent_first (Pauses number why) ds never = absurd (never tt)
-silent_first (Keeps e) ds never = refl
-silent_first (Loses e why) ds never = refl
+silent_first (Confirms number) ds never = absurd (never tt)
+silent_first (Keeps e and_then) ds never = refl
+silent_first (Loses e and_then why) ds never = refl
 silent_first (Learns others) ds never = refl
 silent_first Links ds never = refl
 silent_first Misses ds never = refl
@@ -48,15 +49,16 @@ silent_first (Gives room bytes) ds never = refl
 silent_first (Ends why) ds never = refl
 silent_first HangsUp ds never = refl
 
-silent_lines : (ds es : List Deed) → SaysNothing ds → pause_lines (ds ++ es) ≡ pause_lines es
+silent_lines : (ds es : List Deed) → SaysNothing ds → news_lines (ds ++ es) ≡ news_lines es
 silent_lines [] es silent = refl
 silent_lines (d ∷ ds) es silent = silent_first d (ds ++ es) silent.0 ∙ silent_lines ds es silent.1
 
-first_lines : (d : Deed) (ds es : List Deed) → pause_lines (ds ++ es) ≡ pause_lines ds ++ pause_lines es → pause_lines (d ∷ (ds ++ es)) ≡ pause_lines (d ∷ ds) ++ pause_lines es
-first_lines (Pauses number why) ds es same = ap (λ v. pause_line number why ++ v) same ∙ sym (append_assoc (pause_line number why) (pause_lines ds) (pause_lines es))
+first_lines : (d : Deed) (ds es : List Deed) → news_lines (ds ++ es) ≡ news_lines ds ++ news_lines es → news_lines (d ∷ (ds ++ es)) ≡ news_lines (d ∷ ds) ++ news_lines es
+first_lines (Pauses number why) ds es same = ap (λ v. pause_line number why ++ v) same ∙ sym (append_assoc (pause_line number why) (news_lines ds) (news_lines es))
 first_lines (Tells n) ds es same = same
-first_lines (Keeps e) ds es same = same
-first_lines (Loses e why) ds es same = same
+first_lines (Confirms number) ds es same = ap (λ v. recorded_line number ++ v) same ∙ sym (append_assoc (recorded_line number) (news_lines ds) (news_lines es))
+first_lines (Keeps e and_then) ds es same = same
+first_lines (Loses e and_then why) ds es same = same
 first_lines (Learns others) ds es same = same
 first_lines Links ds es same = same
 first_lines Misses ds es same = same
@@ -66,7 +68,7 @@ first_lines (Gives room bytes) ds es same = same
 first_lines (Ends why) ds es same = same
 first_lines HangsUp ds es same = same
 
-lines_both : (ds es : List Deed) → pause_lines (ds ++ es) ≡ pause_lines ds ++ pause_lines es
+lines_both : (ds es : List Deed) → news_lines (ds ++ es) ≡ news_lines ds ++ news_lines es
 lines_both [] es = refl
 lines_both (d ∷ ds) es = first_lines d ds es (lines_both ds es)
 
@@ -76,32 +78,25 @@ pub took_both : (a b c : Output) (x y : List ℕ) → Took a x b → Took b y c 
 took_both a b c x y first more = record { put = Appends-trans a.written b.written c.written x y first.put more.put; well = λ well. more.well (first.well well) }
 
 -- No further line is printed for deeds by which nothing is said.
-still_told : (told : Bool) (a b : Output) (ds es : List Deed) → pause_lines es ≡ [] → TellsPauses told a ds b → TellsPauses told a (ds ++ es) b
+still_told : (told : Bool) (a b : Output) (ds es : List Deed) → news_lines es ≡ [] → TellsNews told a ds b → TellsNews told a (ds ++ es) b
 still_told false a b ds es none tells = tells
 still_told true a b ds es none tells =
-    let same : pause_lines ds ≡ pause_lines (ds ++ es) = sym (lines_both ds es ∙ ap (λ v. pause_lines ds ++ v) none ∙ append-nil (pause_lines ds)) in
+    let same : news_lines ds ≡ news_lines (ds ++ es) = sym (lines_both ds es ∙ ap (λ v. news_lines ds ++ v) none ∙ append-nil (news_lines ds)) in
     subst (λ v. Took a v b) same tells
 
--- One more pause: its line is printed.
-more_told : (a b c : Output) (ds es : List Deed) (number : ℕ) (why : Pause) → pause_lines es ≡ pause_line number why → TellsPauses true a ds b
-    → Took b (pause_line number why) c → TellsPauses true a (ds ++ es) c
-more_told a b c ds es number why line tells took =
-    let same : pause_lines ds ++ pause_line number why ≡ pause_lines (ds ++ es) = sym (lines_both ds es ∙ ap (λ v. pause_lines ds ++ v) line) in
-    subst (λ v. Took a v c) same (took_both a b c (pause_lines ds) (pause_line number why) tells took)
+-- ## From news to news
 
--- ## From pause to pause
-
--- These deeds were done so far, and so many may still be; the pauses among them are printed.
+-- These deeds were done so far, and so many may still be; the news among them is printed.
 pub record Following {D : Type 0} (did : D → Deed → D → Type 0) (asked : MachineView) (old : D) (before : Output) (told : Bool) (now : MachineView) (new : D) (heard : Output) (left : ℕ) : Type 0 where
   pub deeds : List Deed
   pub did_all : DidAll did asked old deeds now new
   pub quiet : TellsNothing deeds
   pub count : length deeds + left ≡ MOST_DEEDS
-  pub tells : TellsPauses told before deeds heard
+  pub tells : TellsNews told before deeds heard
   pub goes_on : Rests now.stage → ⊥
 
-silent_none : (ds : List Deed) → SaysNothing ds → pause_lines ds ≡ []
-silent_none ds silent = ap pause_lines (sym (append-nil ds)) ∙ silent_lines ds [] silent
+silent_none : (ds : List Deed) → SaysNothing ds → news_lines ds ≡ []
+silent_none ds silent = ap news_lines (sym (append-nil ds)) ∙ silent_lines ds [] silent
 
 pub none_more : {D : Type 0} (did : D → Deed → D → Type 0) (m : MachineView) (old : D) (left : ℕ) → left ≤ 0 → RanQuietly did m old m old left
 none_more did m old left none =
@@ -126,14 +121,11 @@ pub not_told : {D : Type 0} (did : D → Deed → D → Type 0) (asked : Machine
 not_told did asked old before told mid between heard left after new far (inl rests) = absurd (far.goes_on rests.0)
 not_told did asked old before told mid between heard left after new far (inr ran) = gives_up did asked old before told mid between heard left after new far ran
 
-not_paused : (n : TillNote) (number : ℕ) (why : Pause) → n ≡ note.Paused number why → IsFinal n → ⊥
-not_paused n number why is final = subst IsFinal is final
-
 -- Its owner is told what came of the call.
 pub told_at_last : {D : Type 0} (did : D → Deed → D → Type 0) (asked : MachineView) (old : D) (before : Output) (told : Bool) (mid : MachineView) (between : D) (heard : Output) (left later : ℕ) (n : TillNote)
-    (after : MachineView) (new : D) → Following did asked old before told mid between heard left → RanUpTo did mid between n left later after new → IsFinal n
+    (after : MachineView) (new : D) → Following did asked old before told mid between heard left → RanUpTo did mid between n left later after new → Rests after.stage
     → FollowsWith did asked old before (outcome.Told n) told after new heard
-told_at_last did asked old before told mid between heard left later n after new far (inl (final, (ran, silent, counts))) is =
+told_at_last did asked old before told mid between heard left later n after new far (inl (final, (ran, silent, counts, rests))) is =
     let whole = did_both did asked old far.deeds mid between (ran.before ++ Tells n ∷ []) after new far.did_all ran.did_all in
     let long : length (far.deeds ++ ran.before) ≡ length far.deeds + length ran.before = length-append far.deeds ran.before in (
       record {
@@ -143,49 +135,50 @@ told_at_last did asked old before told mid between heard left later n after new 
       },
       still_told told before heard far.deeds ran.before (silent_none ran.before silent) far.tells,
     )
-told_at_last did asked old before told mid between heard left later n after new far (inr (ran, counts)) is = absurd (not_paused n ran.number ran.why ran.note_is is)
+told_at_last did asked old before told mid between heard left later n after new far (inr (inl (ran, counts))) is = absurd (ran.goes_on is)
+told_at_last did asked old before told mid between heard left later n after new far (inr (inr (ran, counts))) is = absurd (ran.goes_on is)
 
-pause_told : (told printed : Bool) (before heard after : Output) (ds es : List Deed) (text : List ℕ) → pause_lines es ≡ text → TellsPauses told before ds heard
+news_told : (told printed : Bool) (before heard after : Output) (ds es : List Deed) (text : List ℕ) → news_lines es ≡ text → TellsNews told before ds heard
     → (IsTrue printed → IsTrue told × Took heard text after) → ((¬ IsTrue told) → (after ≡ heard) × (¬ IsTrue printed)) → (IsTrue told → (¬ IsTrue printed) → IsTrue after.failed)
-    → TellsPauses printed before (ds ++ es) after
-pause_told true true before heard after ds es text lines tells took stays failed =
-    let same : pause_lines ds ++ text ≡ pause_lines (ds ++ es) = sym (lines_both ds es ∙ ap (λ v. pause_lines ds ++ v) lines) in
-    subst (λ v. Took before v after) same (took_both before heard after (pause_lines ds) text tells (took refl).1)
-pause_told true false before heard after ds es text lines tells took stays failed = failed refl (λ bad. cc bad)
-pause_told false true before heard after ds es text lines tells took stays failed = absurd (cc (took refl).0)
-pause_told false false before heard after ds es text lines tells took stays failed = subst (λ (o : Output). IsTrue o.failed) (sym (stays (λ bad. cc bad)).0) tells
+    → TellsNews printed before (ds ++ es) after
+news_told true true before heard after ds es text lines tells took stays failed =
+    let same : news_lines ds ++ text ≡ news_lines (ds ++ es) = sym (lines_both ds es ∙ ap (λ v. news_lines ds ++ v) lines) in
+    subst (λ v. Took before v after) same (took_both before heard after (news_lines ds) text tells (took refl).1)
+news_told true false before heard after ds es text lines tells took stays failed = failed refl (λ bad. cc bad)
+news_told false true before heard after ds es text lines tells took stays failed = absurd (cc (took refl).0)
+news_told false false before heard after ds es text lines tells took stays failed = subst (λ (o : Output). IsTrue o.failed) (sym (stays (λ bad. cc bad)).0) tells
 
-final_or_pause : (n : TillNote) → IsFinal n → IsPauseNote n → ⊥
-final_or_pause (note.Paused number why) final pause = final
-final_or_pause (note.Queued number) final pause = pause
-final_or_pause note.Raised final pause = pause
-final_or_pause (note.Cancelled number tried) final pause = pause
-final_or_pause (note.Recorded number) final pause = pause
-final_or_pause (note.NoLink number) final pause = pause
-final_or_pause (note.Waiting number why) final pause = pause
-final_or_pause (note.StillPaused number why) final pause = pause
-final_or_pause (note.NotKept why) final pause = pause
-
--- A pause is told, and the call goes on.
-pub paused_on : {D : Type 0} (did : D → Deed → D → Type 0) (asked : MachineView) (old : D) (before : Output) (told printed : Bool) (mid : MachineView) (between : D) (heard : Output) (left later : ℕ) (n : TillNote)
-    (after : MachineView) (new : D) (end : Output) → Following did asked old before told mid between heard left → RanUpTo did mid between n left later after new → IsPauseNote n
-    → (IsTrue printed → IsTrue told × Took heard (pause_text n) end) → ((¬ IsTrue told) → (end ≡ heard) × (¬ IsTrue printed)) → (IsTrue told → (¬ IsTrue printed) → IsTrue end.failed)
+-- News is told by this deed, and the call goes on.
+tells_by : {D : Type 0} (did : D → Deed → D → Type 0) (asked : MachineView) (old : D) (before : Output) (told printed : Bool) (mid : MachineView) (between : D) (heard : Output) (left later : ℕ) (text : List ℕ) (d : Deed)
+    (deeds : List Deed) (after : MachineView) (new : D) (end : Output) → Following did asked old before told mid between heard left → (IsTold d → ⊥) → news_lines (d ∷ []) ≡ text → SaysNothing deeds
+    → DidAll did mid between (deeds ++ d ∷ []) after new → length deeds + 1 + later ≡ left → (Rests after.stage → ⊥)
+    → (IsTrue printed → IsTrue told × Took heard text end) → ((¬ IsTrue told) → (end ≡ heard) × (¬ IsTrue printed)) → (IsTrue told → (¬ IsTrue printed) → IsTrue end.failed)
     → Following did asked old before printed after new end later
-paused_on did asked old before told printed mid between heard left later n after new end far (inl (final, ran)) is took stays failed = absurd (final_or_pause n final is)
-paused_on did asked old before told printed mid between heard left later n after new end far (inr (ran, counts)) is took stays failed =
-    let es : List Deed = ran.before ++ Pauses ran.number ran.why ∷ [] in
-    let lines : pause_lines es ≡ pause_text n =
-    silent_lines ran.before (Pauses ran.number ran.why ∷ []) ran.quiet ∙ append-nil (pause_line ran.number ran.why) ∙ ap pause_text (sym ran.note_is) in
-    let long : length (far.deeds ++ es) ≡ length far.deeds + (length ran.before + 1) =
-    length-append far.deeds es ∙ ap (λ k. length far.deeds + k) (length-append ran.before (Pauses ran.number ran.why ∷ [])) in
+tells_by did asked old before told printed mid between heard left later text d deeds after new end far never line silent did_all counts goes_on took stays failed =
+    let es : List Deed = deeds ++ d ∷ [] in
+    let lines : news_lines es ≡ text = silent_lines deeds (d ∷ []) silent ∙ line in
+    let long : length (far.deeds ++ es) ≡ length far.deeds + (length deeds + 1) = length-append far.deeds es ∙ ap (λ k. length far.deeds + k) (length-append deeds (d ∷ [])) in
     record {
       deeds = far.deeds ++ es;
-      did_all = did_both did asked old far.deeds mid between es after new far.did_all ran.did_all;
-      quiet = quiet_both far.deeds es far.quiet (quiet_both ran.before (Pauses ran.number ran.why ∷ []) (silent_quiet ran.before ran.quiet) ((λ never. never), tt));
+      did_all = did_both did asked old far.deeds mid between es after new far.did_all did_all;
+      quiet = quiet_both far.deeds es far.quiet (quiet_both deeds (d ∷ []) (silent_quiet deeds silent) (never, tt));
       count = let count = far.count in omega (arith, long, counts, count);
-      tells = pause_told told printed before heard end far.deeds es (pause_text n) lines far.tells took stays failed;
-      goes_on = ran.goes_on;
+      tells = news_told told printed before heard end far.deeds es text lines far.tells took stays failed;
+      goes_on = goes_on;
     }
+
+-- News is told, and the call goes on.
+pub news_on : {D : Type 0} (did : D → Deed → D → Type 0) (asked : MachineView) (old : D) (before : Output) (told printed : Bool) (mid : MachineView) (between : D) (heard : Output) (left later : ℕ) (n : TillNote)
+    (after : MachineView) (new : D) (end : Output) → Following did asked old before told mid between heard left → RanUpTo did mid between n left later after new → (Rests after.stage → ⊥)
+    → (IsTrue printed → IsTrue told × Took heard (news_text n) end) → ((¬ IsTrue told) → (end ≡ heard) × (¬ IsTrue printed)) → (IsTrue told → (¬ IsTrue printed) → IsTrue end.failed)
+    → Following did asked old before printed after new end later
+news_on did asked old before told printed mid between heard left later n after new end far (inl (final, (ran, silent, counts, rests))) goes took stays failed = absurd (goes rests)
+news_on did asked old before told printed mid between heard left later n after new end far (inr (inl (ran, counts))) goes took stays failed =
+    tells_by did asked old before told printed mid between heard left later (news_text n) (Pauses ran.number ran.why) ran.before after new end far (λ never. never)
+    (append-nil (pause_line ran.number ran.why) ∙ ap news_text (sym ran.note_is)) ran.quiet ran.did_all counts ran.goes_on took stays failed
+news_on did asked old before told printed mid between heard left later n after new end far (inr (inr (ran, counts))) goes took stays failed =
+    tells_by did asked old before told printed mid between heard left later (news_text n) (Confirms ran.number) ran.before after new end far (λ never. never)
+    (append-nil (recorded_line ran.number) ∙ ap news_text (sym ran.note_is)) ran.quiet ran.did_all counts ran.goes_on took stays failed
 
 -- What followed is what came of the call.
 pub became_with : {D : Type 0} (did : D → Deed → D → Type 0) (Refuses : TillRefusal → Type 0) (m asked : MachineView) (old : D) (call : Call) (before : Output) (o : Outcome) (told : Bool) (after : MachineView) (new : D) (end : Output)
