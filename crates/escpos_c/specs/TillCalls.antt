@@ -54,8 +54,8 @@ TillCalled does refuses keeps status told old new =
 abbrev pub Same : MachineView → MachineView → Type 0
 Same m after = after ≡ m
 
--- The receipt that a text describes is taken, with this key or with none, or the machine refuses it; or the text gives no receipt, and the machine isn't asked; or
--- memory ran out over the text.
+-- The receipt that a text describes is taken, with this key or with none, or the machine refuses it; or the text gives no receipt, and the
+-- machine isn't asked; or memory ran out over the text.
 abbrev pub QueuesText : ReceiptOptions → List ℕ → Option (List ℕ) → ℤ → Told → TillCore → TillCore → Type 0
 QueuesText options json key status told old new =
     ((receipt : List Command) × GivesReceipt options json receipt

@@ -72,8 +72,8 @@ LacksFile image = (length image.db ≡ 0) × (EMPTY_LOG < length image.log)
 abbrev pub LacksLog : Image → Type 0
 LacksLog image = (length image.log ≡ 0) × (1 < length image.db)
 
--- What is found in files that hold this: the one database that they hold, or an empty one where they hold none yet. The entries are those that it has.
--- Where neither the database file nor its log is gone, a database that has nothing yet is taken.
+-- What is found in files that hold this: the one database that they hold, or an empty one where they hold none yet. The entries are those
+-- that it has. Where neither the database file nor its log is gone, a database that has nothing yet is taken.
 pub record FoundIn (image : Image) (entries : List Entry) : Type 0 where
   pub db : Database
   pub sound : IsDatabase db
@@ -99,8 +99,8 @@ ReadsIn image P = ∥ ((size : ℕ) × (wanted : List Wanted) × (stored : PageM
 abbrev pub IsBegun : State → Trees → Type 0
 IsBegun s db = s.may_leave db ⊎ ((s.now.schema ≡ no_schema) × HasEntries db [])
 
--- What an open leaves in files where it found a database and it is no ledger's, or it could not read it, or could not make the table: the database that was found, or
--- an empty ledger, and that only where the database that the files held had nothing.
+-- What an open leaves in files where it found a database and it is no ledger's, or it could not read it, or could not make the table: the
+-- database that was found, or an empty ledger, and that only where the database that the files held had nothing.
 abbrev pub LeavesAsFound : Image → Image → Type 0
 LeavesAsFound was image =
     ∥ ((db : Trees) × HoldsDatabase image db

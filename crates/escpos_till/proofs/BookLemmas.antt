@@ -394,7 +394,7 @@ besides s es n place number tried content sums waits stands differ passed =
     let is : slice_get (contents more) place ≡ Some content = ap (λ cs. slice_get cs place) (contents-recorded es n) ∙ kept_content s es place tried content sums at stands.kept in
     let back : number - 1 ≡ place = omega (arith, stands.number_is) in (
       subst (λ m. FirstWaits more m content tried) (sym stands.number_is) (first_of_states more place tried content is at_now
-      (λ k t l h.
+          (λ k t l h.
           let set_so : slice_get (set (states_of es) (n - 1) r) k ≡ Some (state.Waiting t) = ap (λ ss. slice_get ss k) (sym now) ∙ h in
           elim (get-set (states_of es) (n - 1) k r (state.Waiting t) set_so) [
             | inl here ↦ absurd (let bad : state.Waiting t ≡ r = here.1 in cc)

@@ -1,7 +1,8 @@
 -- What a machine does when it learns that others have added entries to its ledger.
 --
 -- A machine that delivers has its ledger to itself only while it keeps an entry. Between two of its entries others may take receipts, with keys or
--- without, raise the next mark number and cancel receipts. None of them tries a receipt or records one, since no two machines deliver at the same time.
+-- without, raise the next mark number and cancel receipts. None of them tries a receipt or records one, since no two machines deliver at
+-- the same time.
 use Rattle.std.specs.Prelude.{ℕ, ◌≡◌, ◌⊎◌, ◌+◌, ◌<◌, ◌≤◌, List, [], ◌∷◌, ◌++◌, length}
 use Rattle.std.specs.List.{AllByRecursion}
 use Rattle.escpos_command.specs.Digits.{mark_count}
@@ -97,7 +98,8 @@ IsDelivering (then.GoOn number tried due) = Unit {0}
 IsDelivering (then.SendNext recorded due) = Unit {0}
 IsDelivering next = ⊥
 
--- It fails for this reason: out of memory; or others may not have added these entries. A machine that delivers nothing fails, as nobody else may add any.
+-- It fails for this reason: out of memory; or others may not have added these entries. A machine that delivers nothing fails, as nobody
+-- else may add any.
 abbrev pub NotLearned : Then → List Entry → Book → StoreFault → Type 0
 NotLearned next others b store.Memory = Unit {0}
 NotLearned next others b store.Failed = IsDelivering next → (entries : List Entry) → IsBookOf b entries → IsLedger entries → ¬ AreOthers entries others

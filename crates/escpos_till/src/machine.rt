@@ -22,7 +22,8 @@
 //!   Failed     | nothing                    | nothing              | Failed: a new machine is made from the entries
 //!
 //! Before a byte of a receipt goes out, an entry is kept that says that it is tried, with the mark numbers that its link may
-//! use; and a receipt is recorded only where the host has recorded it. Where the next receipt goes over the same link, both are kept as one. `specs/Machine.antt` says what each call does.
+//! use; and a receipt is recorded only where the host has recorded it. Where the next receipt goes over the same link, both are kept as
+//! one. `specs/Machine.antt` says what each call does.
 
 ghost use Rattle.std.specs.Prelude.{◌≡◌, ◌≢◌, ◌↔◌, ◌-◌, ◌++◌, ◌<◌, ◌≤◌, ◌^◌, ℕ, List, length, take, drop, min, option_map, Ok, IfOk, IfErr, MatchOption, OnOk, IsErrOf, IsTrue};
 ghost use Rattle.escpos_till.specs.declared.entry.Entry.{Entry};
@@ -204,7 +205,10 @@ pub enum Then {
     /// The next mark number is raised.
     Raised,
     /// A receipt is cancelled that was tried so often.
-    Cancelled { number: ReceiptNumber, tried: usize },
+    Cancelled {
+        number: ReceiptNumber,
+        tried: usize,
+    },
     /// A receipt is sent.
     Send(Due),
     /// A receipt is recorded.
@@ -216,7 +220,10 @@ pub enum Then {
         due: Due,
     },
     /// A receipt is sent over the link of the one before, which is recorded.
-    SendNext { recorded: ReceiptNumber, due: Due },
+    SendNext {
+        recorded: ReceiptNumber,
+        due: Due,
+    },
 }
 
 /// Where a machine stands.
@@ -683,7 +690,15 @@ impl TillMachine {
                 let heard = self.host.heard(bytes);
                 let left = less(talk.left, heard.consumed);
                 let all = heard.consumed == bytes.len();
-                self.stage = turned(self.alloc, &self.book, &mut self.host, heard.event, talk, left, all);
+                self.stage = turned(
+                    self.alloc,
+                    &self.book,
+                    &mut self.host,
+                    heard.event,
+                    talk,
+                    left,
+                    all,
+                );
                 heard.consumed
             }
             other => {

@@ -60,7 +60,11 @@ pub struct Surroundings<S: Store, L: PrinterLine> {
 impl<S: Store, L: PrinterLine> Surroundings<S, L> {
     /// Keeps an entry in the store, and another one with it, if one is given, unless others have added some.
     #[tactic(auto, unfolding(crate::specs::Surroundings::Did))]
-    pub(crate) fn append(&mut self, entry: &Entry, after: Option<&Entry>) -> Result<Appended, StoreFault>
+    pub(crate) fn append(
+        &mut self,
+        entry: &Entry,
+        after: Option<&Entry>,
+    ) -> Result<Appended, StoreFault>
         ensures keeps { IfOk result (λ it. IfDone it (Did S.faithful S.holds S.leaves S.says L.did self.old (Keeps entry.now (option_map (λ e. e.now) after.entry)) self.new)) }
         ensures learns { IfOk result (λ it. IfOthers it (λ others. Did S.faithful S.holds S.leaves S.says L.did self.old (Learns others) self.new)) }
         ensures loses { IfErr result (λ why. Did S.faithful S.holds S.leaves S.says L.did self.old (Loses entry.now (option_map (λ e. e.now) after.entry) why) self.new) }

@@ -51,8 +51,8 @@ lines_in did Refuses m old call (outcome.Refused why) after new becomes = []
 lines_in did Refuses m old call (outcome.Told n) after new becomes = news_lines becomes.runs.before
 lines_in did Refuses m old call outcome.GivenUp after new becomes = news_lines becomes.runs.run.deeds
 
--- The last receipt that was sent is recorded or cancelled, but the output has failed, and so no further link is made; or it is neither, or none waits, and the last line
--- says so.
+-- The last receipt that was sent is recorded or cancelled, but the output has failed, and so no further link is made; or it is neither, or
+-- none waits, and the last line says so.
 abbrev pub RoundEnds : {D : Type 0} → (D → Deed → D → Type 0) → Delivery → MachineView → D → Output → MachineView → D → Output → Status → Type 0
 RoundEnds did delivery m old before after new end status =
     ((n : TillNote) × Settles n × Serves did m old (asked delivery) n MOST_DEEDS after new × (status ≡ Device) × IsTrue end.failed)
@@ -67,7 +67,8 @@ pub record EndsAtMost {D : Type 0} (notes : List TillNote) (mid : MachineView) (
   pub output : end ≡ heard
   pub good : status ≡ Good
 
--- Receipts are recorded, or found cancelled, and a line is printed for each; then a last line says why no further one is sent, or none waits any more.
+-- Receipts are recorded, or found cancelled, and a line is printed for each; then a last line says why no further one is sent, or none
+-- waits any more.
 pub record DeliversAndTells {D : Type 0} (did : D → Deed → D → Type 0) (delivery : Delivery) (m : MachineView) (old : D) (before : Output) (after : MachineView) (new : D) (end : Output) (status : Status) : Type 0 where
   pub notes : List TillNote
   pub mid : MachineView

@@ -640,7 +640,7 @@ kept_carried ids w new low links known c stores =
     let kept = subst (λ s. Kept s m after) is stores.moves.goes.1 in
     let link : link_by w.machine (next_free w.kept) ≡ link_of stores.next e (next_free w.kept) = ap (λ o. link_by o (next_free w.kept)) stores.moves.was ∙ ap (λ s. link_at s (next_free w.kept)) is in
     let (apart, own, talks) = kept_by ids stores.next low links w.kept known.hand (with_earlier known.earlier known.host) m after e book.next
-        (ap (λ v. v.out) (sym host_is), ap (λ v. v.next) (sym host_is)) holds.0 holds.1 kept.1 c.apart c.own in
+    (ap (λ v. v.out) (sym host_is), ap (λ v. v.next) (sym host_is)) holds.0 holds.1 kept.1 c.apart c.own in
     subst (λ ls. AreCarried low new (ls ++ links)) (sym link) (record {
       apart = subst (λ k. AreApart low (link_of stores.next e (next_free w.kept) ++ links) (next_free k.kept)) (sym stores.moves.is) apart;
       own = own;

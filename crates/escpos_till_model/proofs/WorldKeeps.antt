@@ -1,5 +1,5 @@
--- What holds of every world holds after an entry is kept: with it what the machine is to do then, a link that is opened or a receipt that goes over the
--- link that there is.
+-- What holds of every world holds after an entry is kept: with it what the machine is to do then, a link that is opened or a receipt that
+-- goes over the link that there is.
 use Rattle.std.proofs.Common.{ℕ, zero, suc, ◌≡◌, ◌≢◌, ◌+◌, ◌-◌, ◌<◌, ◌≤◌, ◌-◌, ◌⊎◌, inl, inr, max, Some, None, List, [], ◌∷◌, ◌++◌, length, refl, sym, ◌∙◌, ap, subst, append-nil, arith}
 use Rattle.std.specs.Prelude.{true}
 use Rattle.std.proofs.Math.Nat.{le-max_right}

@@ -506,7 +506,7 @@ both_account laws kept e f (then.GoOn number tried due) hand earlier h h' w new 
     (omega (arith, first.keeps.next)) (omega (arith, few)) refl) first.late in
     let both : Accounted (more ++ this ∷ []) None (with_earlier earlier h') new = record { keeps = entry_keeps more this None (with_earlier earlier h') refl may first.keeps; late = late } in (
       subst (λ es. Accounted es None (with_earlier earlier h') new) (append_assoc kept (e ∷ []) (f ∷ []))
-      (subst (λ x. Accounted (more ++ x ∷ []) None (with_earlier earlier h') new) (sym send.tried_is ∙ same) both),
+          (subst (λ x. Accounted (more ++ x ∷ []) None (with_earlier earlier h') new) (sym send.tried_is ∙ same) both),
       subst (MayFollow more) same send.follows,
     )
 both_account laws kept e f then.Queued hand earlier h h' w new sound wired right gone a follows keep with drops = absurd (let bad : None ≡ Some f = with in cc)

@@ -96,7 +96,8 @@ link_for kept (entry.Tried number limit) = record { first = next_free kept; limi
 link_for kept e = []
 
 -- The links after these deeds, where the store had these entries and these links were there before: one for each entry by which a receipt is
--- tried, with what was put since then; for what others add there is none. Nothing is put before there is one. Where a link broke, some of the bytes were put, or none or all.
+-- tried, with what was put since then; for what others add there is none. Nothing is put before there is one. Where a link broke, some of
+-- the bytes were put, or none or all.
 abbrev pub CarriesBy : List Entry → List Deed → List Carried → List Carried → Type 0
 CarriesBy kept [] before links = links ≡ before
 CarriesBy kept (Keeps e None ∷ ds) before links = CarriesBy (kept ++ e ∷ []) ds (link_for kept e ++ before) links

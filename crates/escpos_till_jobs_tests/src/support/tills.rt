@@ -226,8 +226,8 @@ pub fn performed<R: ByteIn, W: ByteOut>(
     }
 }
 
-// A ledger in memory, at the path a, to which others add entries: all of these, just before it is opened for the time with this number. Or it loses all that it
-// has then.
+// A ledger in memory, at the path a, to which others add entries: all of these, just before it is opened for the time with this number. Or
+// it loses all that it has then.
 #[derive(Drop)]
 pub struct BusyLedger {
     pub store: Option<MemoryStore>,

@@ -52,7 +52,7 @@ returns-clause-turned g c = λ done. elim c.match-asks.branch [
         λ said. said,
         (next, is, may_go (entry_with next) next refl, subst (Unsure m.stage why m) (sym w.machine-is) w.appended.ensures.unsure),
         subst (DoneBy (Loses e (entry_with next) why)) (sym w.around-is)
-        (subst (λ f. DoneBy (Loses e f why) w.append.new.self) with_is (subst (λ x. DoneBy (Loses x (option_map (λ r. r.now) w.asks_with-with.result) why) w.append.new.self) entry_is w.in-Err.ensures.loses)),
+            (subst (λ f. DoneBy (Loses e f why) w.append.new.self) with_is (subst (λ x. DoneBy (Loses x (option_map (λ r. r.now) w.asks_with-with.result) why) w.append.new.self) entry_is w.in-Err.ensures.loses)),
       )
   | in-Connect w ↦ search rules
   | in-Put w ↦ search rules

@@ -21,7 +21,7 @@ waiting_at-requires-clause-contents c =
 pub returns : goal.returns
 returns c = record {
   first = λ entries book follows.
-    let first = subst (λ (ss : List ReceiptState). IsFirstBesides ss (c.args.number - 1) c.first_besides.result) c.deref.ensures.value
-    (subst (λ n. IsFirstBesides c.deref.result.now (n - 1) c.first_besides.result) c.get.ensures.value c.first_besides.ensures) in
-    others_found c.args.self.now entries c.args.number c.first_besides.result c.waiting_at.result book first follows.0 c.waiting_at.ensures;
+      let first = subst (λ (ss : List ReceiptState). IsFirstBesides ss (c.args.number - 1) c.first_besides.result) c.deref.ensures.value
+      (subst (λ n. IsFirstBesides c.deref.result.now (n - 1) c.first_besides.result) c.get.ensures.value c.first_besides.ensures) in
+      others_found c.args.self.now entries c.args.number c.first_besides.result c.waiting_at.result book first follows.0 c.waiting_at.ensures;
 }
