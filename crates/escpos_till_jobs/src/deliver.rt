@@ -39,11 +39,11 @@ pub struct Delivery<'a> {
 /// Sends each receipt that waits, in the order of their numbers, until one still waits then. Others may take receipts meanwhile, which are sent
 /// too, and cancel some.
 ///
-/// Each gives one line: `recorded N` once that would outlive a crash, or `cancelled N` where somebody has cancelled it since it was to be sent,
-/// with ` tried K` if it was tried before that; for the first that still waits `waiting N WHY`, or `ledger failed`, or `memory`. Before it
-/// a line `paused N WHY` is printed each time that the printer says that it prints nothing for now. The status is `Good` if none waits any
-/// more. It is `Refused` if too few mark numbers are left, or the ledger's text gives no receipt; `Memory` if an allocation failed; and
-/// `Device` for every other reason, and if `output` has failed.
+/// Each gives one line: `recorded N` once that would outlive a crash, be it while the next one is being sent, or `cancelled N` where
+/// somebody has cancelled it since it was to be sent, with ` tried K` if it was tried before that; for the first that still waits
+/// `waiting N WHY`, or `ledger failed`, or `memory`. Before it a line `paused N WHY` is printed each time that the printer says that it
+/// prints nothing for now. The status is `Good` if none waits any more. It is `Refused` if too few mark numbers are left, or the ledger's
+/// text gives no receipt; `Memory` if an allocation failed; and `Device` for every other reason, and if `output` has failed.
 pub fn deliver_waiting<S: Store, L: PrinterLine, W: ByteOut>(
     machine: &mut TillMachine,
     around: &mut Surroundings<S, L>,

@@ -2,6 +2,9 @@
 //!
 //! While a printer is waited for, a ledger is let go, so that others may add entries to it; where no wait is needed, that would only cost time.
 
+ghost use Rattle.std.specs.Prelude.{◌≡◌, false};
+ghost use Rattle.escpos_jobs.specs.declared.device_file.DeviceEnd.{DeviceEnd};
+
 use escpos_jobs::printer_link::LinkReader;
 use libc::net::{POLLIN, POLLOUT, poll};
 use libc::types::pollfd;
@@ -21,12 +24,16 @@ pub struct Watched {
 
 impl Watched {
     /// No link.
-    pub fn nothing() -> Self {
+    pub fn nothing() -> Self
+        ensures { result.socket ≡ NOTHING }
+    {
         Watched { socket: NOTHING }
     }
 
     /// The link with this way from its printer, for as long as that is open.
-    pub fn link(reader: &LinkReader) -> Self {
+    pub fn link(reader: &LinkReader) -> Self
+        ensures device { (device : DeviceEnd) → reader.now ≡ LinkReader.Device device → result.socket ≡ NOTHING }
+    {
         match reader {
             LinkReader::Tcp(stream) => Watched {
                 socket: stream.as_raw_fd(),
@@ -36,17 +43,23 @@ impl Watched {
     }
 
     /// Whether the link takes as many bytes at once as are put at a time. (A socket has room for some where a third of its room is free.)
-    pub fn takes_at_once(&self) -> bool {
+    pub fn takes_at_once(&self) -> bool
+        ensures { self.now.socket ≡ NOTHING → result ≡ false }
+    {
         self.is_ready(POLLOUT, 0)
     }
 
     /// Whether bytes are there, or come within a moment.
-    pub fn gives_soon(&self) -> bool {
+    pub fn gives_soon(&self) -> bool
+        ensures { self.now.socket ≡ NOTHING → result ≡ false }
+    {
         self.is_ready(POLLIN, MOMENT)
     }
 
     // Whether the socket is ready for this, or is so within so many milliseconds.
-    fn is_ready(&self, events: i16, within: i32) -> bool {
+    fn is_ready(&self, events: i16, within: i32) -> bool
+        ensures { self.now.socket ≡ NOTHING → result ≡ false }
+    {
         if self.socket == NOTHING {
             return false;
         }
