@@ -117,6 +117,7 @@ class Errors(unittest.TestCase):
             (kolatennis.Refused, lambda: open_host().submit("[")),
             (kolatennis.NotNow, lambda: kolatennis.Host().submit([{"line": "Hi"}])),
             (kolatennis.OutOfRange, lambda: kolatennis.Host(-1)),
+            (kolatennis.OutOfRange, lambda: kolatennis.Host(2**32)),
             (kolatennis.OutOfRange, lambda: kolatennis.Printer(width=0)),
             (kolatennis.Refused, lambda: kolatennis.Till().queue("[")),
             (kolatennis.NotNow, lambda: kolatennis.Till().deliver()),
@@ -247,6 +248,10 @@ class Handles(unittest.TestCase):
         host.link_up()
         self.assertEqual(host.hear(b'\x37"0002\x00'), [kolatennis.Event("recorded", 1)])
         self.assertEqual(host.records, 2)
+
+    def test_begins_with_any_mark(self):
+        for first in 1679616, 1679617, 2**32 - 1:
+            self.assertEqual(kolatennis.Host(first_mark=first).next_mark, first)
 
     def test_made_again(self):
         host = kolatennis.Host(5)

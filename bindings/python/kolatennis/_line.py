@@ -114,7 +114,7 @@ class Host(_Held):
     _free = library.kolatennis_host_free
 
     def __init__(self, first_mark: int = 0, records: int = 0) -> None:
-        in_range(first_mark, 1679616, "first_mark")
+        in_range(first_mark, 2**32 - 1, "first_mark")
         in_range(records, NO_PLACE, "records")
         self._make(library.kolatennis_host_resume, first_mark, records)
 
