@@ -144,6 +144,7 @@ const char *kolatennis_error_name(uint32_t reason) {
         case KOLATENNIS_TILL_BAD_COPY: return "BadCopy";
         case KOLATENNIS_TILL_DAMAGED: return "Damaged";
         case KOLATENNIS_TILL_BAD_KEY: return "BadKey";
+        case KOLATENNIS_TILL_EARLIER: return "Earlier";
         case KOLATENNIS_LINK_ENDED: return "Ended";
         case KOLATENNIS_LINK_READ_FAULT: return "ReadFault";
         case KOLATENNIS_LINK_WRITE_FAULT: return "WriteFault";

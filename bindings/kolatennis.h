@@ -108,7 +108,8 @@ enum kolatennis_till_reason {
     KOLATENNIS_TILL_NOT_TAKEN = 710,     /* no receipt has this number */
     KOLATENNIS_TILL_RECORDED = 711,      /* the receipt is recorded */
     KOLATENNIS_TILL_CANCELLED = 712,     /* the receipt is cancelled already */
-    KOLATENNIS_TILL_BAD_KEY = 713        /* the key of a receipt isn't 1 to 64 characters, each 21 to 7E (hexadecimal) */
+    KOLATENNIS_TILL_BAD_KEY = 713,       /* the key of a receipt isn't 1 to 64 characters, each 21 to 7E (hexadecimal) */
+    KOLATENNIS_TILL_EARLIER = 714        /* an older ledger has taken the receipt */
 };
 
 /* Why a link ended; its owner may say the first four. */
@@ -395,8 +396,8 @@ KOLATENNIS_API int kolatennis_till_queue_raw(kolatennis_till *till, uint16_t wid
  * TILL_MARK_REUSED, and then `next` the next number; or TILL_MARK_TOO_HIGH, and then `next` the last that leaves enough for a try. */
 KOLATENNIS_API int kolatennis_till_raise(kolatennis_till *till, uint32_t first, uint32_t *reason, uint32_t *next);
 
-/* Cancels a receipt that waits: it isn't sent again. At 1 `reason` is TILL_BUSY, TILL_FAILED, TILL_NOT_TAKEN, TILL_RECORDED or
- * TILL_CANCELLED. */
+/* Cancels a receipt that waits: it isn't sent again. At 1 `reason` is TILL_BUSY, TILL_FAILED, TILL_NOT_TAKEN, TILL_EARLIER,
+ * TILL_RECORDED or TILL_CANCELLED. */
 KOLATENNIS_API int kolatennis_till_cancel(kolatennis_till *till, size_t number, uint32_t *reason);
 
 /* Delivers the first receipt that waits. A printer may still wait for the rest of a command that an older link cut off, and takes the
@@ -435,7 +436,7 @@ KOLATENNIS_API int kolatennis_till_told(kolatennis_till *till);
  * in: at ASK_WAIT, wait for it so long. */
 KOLATENNIS_API int kolatennis_till_is_paused(kolatennis_till *till, bool *is);
 
-/* How many receipts were taken: they have the numbers from 1 to this. Where one of them stands. The number of the next mark. */
+/* The number of the receipt that was taken last, in these entries or in an older ledger that they go on from. Where one of them stands. The number of the next mark. */
 KOLATENNIS_API int kolatennis_till_receipts(kolatennis_till *till, size_t *receipts);
 KOLATENNIS_API int kolatennis_till_state(kolatennis_till *till, size_t number, uint32_t *state, size_t *count);
 KOLATENNIS_API int kolatennis_till_next_mark(kolatennis_till *till, uint32_t *mark);

@@ -37,6 +37,7 @@ STOPS: Dict[int, str] = {600: "all", 601: "answers full", 602: "offline", 603: "
 TILL_REASONS: Dict[int, str] = {
     701: "Busy", 702: "Failed", 703: "NothingWaits", 706: "MarkReused", 707: "BadCopy", 708: "Damaged",
     709: "MarkTooHigh", 710: "NotTaken", 711: "Recorded", 712: "Cancelled", 713: "BadKey",
+    714: "Earlier",
 }
 #: What a till asks for, by number.
 ASKS: Dict[int, str] = {800: "nothing", 801: "append", 802: "connect", 803: "put", 804: "wait", 805: "hang up", 806: "tell"}

@@ -220,7 +220,7 @@ class Till(_Held):
 
     @property
     def receipts(self) -> int:
-        """How many receipts were taken: they have the numbers from 1 to this."""
+        """The number of the receipt that was taken last, in these entries or in an older ledger that they go on from."""
         count: int = self._number(library.kolatennis_till_receipts, ctypes.c_size_t)
         return count
 

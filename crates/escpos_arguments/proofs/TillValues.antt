@@ -7,6 +7,7 @@ use Rattle.escpos_arguments.specs.Arguments.{IsNumberOr, IsWait}
 use Rattle.escpos_arguments.specs.ClapAnswers.{IsNumberIn}
 use Rattle.escpos_arguments.proofs.TaskValues.{no_error, number_in}
 use Rattle.escpos_arguments.specs.TillArguments.{AsksTillBy, IsTillInRange}
+use Rattle.escpos_command.specs.Digits.{mark_count}
 use Rattle.escpos_till.specs.Copy.{IsCopyText}
 use Rattle.escpos_till.specs.Keys.{IsKey}
 use Rattle.escpos_jobs.specs.Address.{IsAddress}
@@ -14,7 +15,7 @@ use Rattle.escpos_jobs.specs.declared.address.Address.{Address}
 use Rattle.escpos_jobs.specs.declared.task.NoTask.{NoTask}
 use Rattle.escpos_till_jobs.specs.declared.deliver.Delivery.{Delivery}
 use Rattle.escpos_till_jobs.specs.declared.task.TillTask.{TillTask}
-use Rattle.escpos_till_jobs.specs.declared.task.TillTask.TheVariants.{Queue, QueueAgain, QueueRaw, Deliver, DeliverWithin, Cancel, List as listing}
+use Rattle.escpos_till_jobs.specs.declared.task.TillTask.TheVariants.{Queue, QueueAgain, QueueRaw, Deliver, DeliverWithin, Cancel, Renew, List as listing}
 
 -- An address that is asked for is taken.
 pub taken_address : (rows : List Row) (task : TillTask) (r : Result Address NoTask) (why : NoTask) → AsksTillBy (codes "deliver") rows task → r ≡ Err why
@@ -29,6 +30,7 @@ taken_address rows (DeliverWithin ledger d wait) r why asks is taken =
     let (name, path, address, openings, patience, copy, is_wait) = asks in
     no_error r d.address why (taken d.address address) is
 taken_address rows (Cancel ledger number) r why asks is taken = let bad = asks.0 in absurd cc
+taken_address rows (Renew ledger new) r why asks is taken = let bad = asks.0 in absurd cc
 taken_address rows (listing ledger first) r why asks is taken = let bad = asks.0 in absurd cc
 
 -- A wait that is asked for is taken.
@@ -45,6 +47,7 @@ taken_wait rows (DeliverWithin ledger d wait) r why asks range is taken =
     let (low, high, within, fits, in_range) = range in
     no_error r (Some wait) why (taken (Some wait) (number_in _ wait is_wait) in_range) is
 taken_wait rows (Cancel ledger number) r why asks range is taken = let bad = asks.0 in absurd cc
+taken_wait rows (Renew ledger new) r why asks range is taken = let bad = asks.0 in absurd cc
 taken_wait rows (listing ledger first) r why asks range is taken = let bad = asks.0 in absurd cc
 
 -- The number of a receipt that is to be taken once more is taken.
@@ -62,6 +65,7 @@ taken_again rows (QueueAgain ledger number) r why asks range is taken =
 taken_again rows (Deliver ledger d) r why asks range is taken = let bad = asks.0 in absurd cc
 taken_again rows (DeliverWithin ledger d wait) r why asks range is taken = let bad = asks.0 in absurd cc
 taken_again rows (Cancel ledger number) r why asks range is taken = let bad = asks.0 in absurd cc
+taken_again rows (Renew ledger new) r why asks range is taken = let bad = asks.0 in absurd cc
 taken_again rows (listing ledger first) r why asks range is taken = let bad = asks.0 in absurd cc
 
 -- A key that is given is taken.
@@ -79,6 +83,7 @@ taken_key rows (QueueAgain ledger number) r why asks range is taken =
 taken_key rows (Deliver ledger d) r why asks range is taken = let bad = asks.0 in absurd cc
 taken_key rows (DeliverWithin ledger d wait) r why asks range is taken = let bad = asks.0 in absurd cc
 taken_key rows (Cancel ledger number) r why asks range is taken = let bad = asks.0 in absurd cc
+taken_key rows (Renew ledger new) r why asks range is taken = let bad = asks.0 in absurd cc
 taken_key rows (listing ledger first) r why asks range is taken = let bad = asks.0 in absurd cc
 
 -- The task with the values that were read.
@@ -119,4 +124,39 @@ taken_task rows (DeliverWithin path d given) ledger a n s copy wait asks range l
     same_delivery ledger path a n s copy wait (Some given) d (l path is_path) (b d.address address) (m d.openings openings low high) (p d.patience patience within) (k d.copy is_copy fits)
     (w (Some given) (number_in _ given is_wait) in_range)
 taken_task rows (Cancel path number) ledger a n s copy wait asks range l b m p k w = let bad = asks.0 in absurd cc
+taken_task rows (Renew path new) ledger a n s copy wait asks range l b m p k w = let bad = asks.0 in absurd cc
 taken_task rows (listing path first) ledger a n s copy wait asks range l b m p k w = let bad = asks.0 in absurd cc
+
+-- ## A ledger that is renewed, or listed
+
+pub taken_renewal : (rows : List Row) (task : TillTask) (ledger new : List ℕ) (r : Result TillTask NoTask) → AsksTillBy (codes "ledger") rows task → first_of (codes "renew") rows ≡ Some new
+    → ((path : List ℕ) → first_of (codes "ledger") rows ≡ Some path → ledger ≡ path) → (IsNumberIn (one_of (codes "first") rows) None → r ≡ Ok (Renew ledger new)) → r ≡ Ok task
+taken_renewal rows (Queue path options key) ledger new r asks is same taken = let bad = asks.0 in absurd cc
+taken_renewal rows (QueueRaw path width key) ledger new r asks is same taken = let bad = asks.0 in absurd cc
+taken_renewal rows (QueueAgain path number) ledger new r asks is same taken = let bad = asks.0 in absurd cc
+taken_renewal rows (Deliver path d) ledger new r asks is same taken = let bad = asks.0 in absurd cc
+taken_renewal rows (DeliverWithin path d wait) ledger new r asks is same taken = let bad = asks.0 in absurd cc
+taken_renewal rows (Cancel path number) ledger new r asks is same taken = let bad = asks.0 in absurd cc
+taken_renewal rows (Renew path other) ledger new r asks is same taken =
+    let (name, is_path, is_other, none) = asks in
+    let one : new ≡ other = (let both : Some new ≡ Some other = sym is ∙ is_other in cc) in
+    taken none ∙ ap (λ l. Ok (Renew l new)) (same path is_path) ∙ ap (λ l. Ok (Renew path l)) one
+taken_renewal rows (listing path first) ledger new r asks is same taken =
+    let (name, is_path, none, number) = asks in
+    absurd (let bad : Some new ≡ None = sym is ∙ none in cc)
+
+pub taken_listing : (rows : List Row) (task : TillTask) (ledger : List ℕ) (r : Result TillTask NoTask) → AsksTillBy (codes "ledger") rows task → IsTillInRange task → first_of (codes "renew") rows ≡ None
+    → ((path : List ℕ) → first_of (codes "ledger") rows ≡ Some path → ledger ≡ path)
+    → ((first : Option ℕ) → IsNumberIn (one_of (codes "first") rows) first → IfSome first (λ n. n < mark_count) → r ≡ Ok (listing ledger first)) → r ≡ Ok task
+taken_listing rows (Queue path options key) ledger r asks range is same taken = let bad = asks.0 in absurd cc
+taken_listing rows (QueueRaw path width key) ledger r asks range is same taken = let bad = asks.0 in absurd cc
+taken_listing rows (QueueAgain path number) ledger r asks range is same taken = let bad = asks.0 in absurd cc
+taken_listing rows (Deliver path d) ledger r asks range is same taken = let bad = asks.0 in absurd cc
+taken_listing rows (DeliverWithin path d wait) ledger r asks range is same taken = let bad = asks.0 in absurd cc
+taken_listing rows (Cancel path number) ledger r asks range is same taken = let bad = asks.0 in absurd cc
+taken_listing rows (Renew path other) ledger r asks range is same taken =
+    let (name, is_path, is_other, none) = asks in
+    absurd (let bad : Some other ≡ None = sym is_other ∙ is in cc)
+taken_listing rows (listing path first) ledger r asks range is same taken =
+    let (name, is_path, none, number) = asks in
+    taken first number range ∙ ap (λ l. Ok (listing l first)) (same path is_path)

@@ -13,7 +13,7 @@ use Rattle.escpos_jobs.specs.Address.{IsAddress}
 use Rattle.escpos_till.specs.Copy.{IsCopyText}
 use Rattle.escpos_till.specs.Keys.{IsKey}
 use Rattle.escpos_till_jobs.specs.declared.task.TillTask.{TillTask}
-use Rattle.escpos_till_jobs.specs.declared.task.TillTask.TheVariants.{Queue, QueueAgain, QueueRaw, Deliver, DeliverWithin, Cancel, List as listing}
+use Rattle.escpos_till_jobs.specs.declared.task.TillTask.TheVariants.{Queue, QueueAgain, QueueRaw, Deliver, DeliverWithin, Cancel, Renew, List as listing}
 
 -- ---- what the arguments ask for
 
@@ -59,8 +59,13 @@ AsksTillBy name rows (DeliverWithin ledger delivery wait) = (name ≡ codes "del
 AsksTillBy name rows (Cancel ledger number) = (name ≡ codes "cancel")
     × (first_of (codes "ledger") rows ≡ Some ledger)
     × IsSomeAnd (one_of (codes "number") rows) (λ text. IsNumber text number)
+AsksTillBy name rows (Renew ledger new) = (name ≡ codes "ledger")
+    × (first_of (codes "ledger") rows ≡ Some ledger)
+    × (first_of (codes "renew") rows ≡ Some new)
+    × IsNumberIn (one_of (codes "first") rows) None
 AsksTillBy name rows (listing ledger first) = (name ≡ codes "ledger")
     × (first_of (codes "ledger") rows ≡ Some ledger)
+    × (first_of (codes "renew") rows ≡ None)
     × IsNumberIn (one_of (codes "first") rows) first
 
 -- what `clap` finds in the arguments, a name and the values after it, asks for the task
@@ -75,6 +80,7 @@ IsTillInRange (QueueAgain ledger number) = 0 < number
 IsTillInRange (Deliver ledger delivery) = (1 ≤ delivery.openings) × (delivery.openings ≤ MOST_OPENINGS) × IsWait delivery.patience × IfSome delivery.copy IsCopyText
 IsTillInRange (DeliverWithin ledger delivery wait) = (1 ≤ delivery.openings) × (delivery.openings ≤ MOST_OPENINGS) × IsWait delivery.patience × IfSome delivery.copy IsCopyText × IsWait wait
 IsTillInRange (Cancel ledger number) = 0 < number
+IsTillInRange (Renew ledger new) = Unit {0}
 IsTillInRange (listing ledger first) = IfSome first (λ n. n < mark_count)
 
 -- ---- the till's arguments, as `clap` reads them
@@ -103,7 +109,7 @@ cancel_words = (with_rule (with_rule (new_app (codes "cancel")) ledger_rule) num
 
 -- what may follow `ledger`
 abbrev pub ledger_words : Shape
-ledger_words = (with_rule (with_rule (new_app (codes "ledger")) ledger_rule) (option_rule (codes "first") false)).top
+ledger_words = (with_rule (with_rule (with_rule (new_app (codes "ledger")) ledger_rule) (option_rule (codes "first") false)) (option_rule (codes "renew") false)).top
 
 -- the name of a task with its values, and nothing more
 abbrev pub till_words : App

@@ -91,7 +91,7 @@ _escpos_cli() {
         queue) given='--raw --width --replace --again --key --help' ;;
         deliver) given='--openings --copy --wait --patience --help' ;;
         cancel) given='--help' ;;
-        ledger) given='--first --help' ;;
+        ledger) given='--first --renew --help' ;;
         completions) given='bash zsh fish' ;;
         esac
     fi
@@ -140,7 +140,7 @@ loop) compadd -- --width --help ;;
 queue) compadd -- --raw --width --replace --again --key --help ;;
 deliver) compadd -- --openings --copy --wait --patience --help ;;
 cancel) compadd -- --help ;;
-ledger) compadd -- --first --help ;;
+ledger) compadd -- --first --renew --help ;;
 completions) compadd bash zsh fish ;;
 esac
 _files
@@ -199,5 +199,6 @@ complete -c escpos_cli -n '__fish_seen_subcommand_from deliver' -l copy -x
 complete -c escpos_cli -n '__fish_seen_subcommand_from deliver' -l wait -x
 complete -c escpos_cli -n '__fish_seen_subcommand_from deliver' -l patience -x
 complete -c escpos_cli -n '__fish_seen_subcommand_from ledger' -l first -x
+complete -c escpos_cli -n '__fish_seen_subcommand_from ledger' -l renew -r
 complete -c escpos_cli -f -n '__fish_seen_subcommand_from completions' -a 'bash zsh fish'
 ";

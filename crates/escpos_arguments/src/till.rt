@@ -120,8 +120,48 @@ fn ledger_asked<'a>(given: &ArgMatches<'a>) -> Result<TillTask<'a>, NoTask>
     ensures usage { IfErr result (λ why. why ≡ NoTask.Usage) }
 {
     let ledger = ledger_path(given)?;
+    match renewal_path(given) {
+        Some(new) => renewal_asked(given, ledger, new),
+        None => listing_asked(given, ledger),
+    }
+}
+
+// The task to list where the receipts of a ledger stand.
+fn listing_asked<'a>(given: &ArgMatches<'a>, ledger: LedgerPath<'a>) -> Result<TillTask<'a>, NoTask>
+    ensures asks { IfOk result (λ task. (first : Option ℕ) × (task ≡ TillTask.List ledger.entry first) × IsNumberIn (one_of (codes "first") (rows_of (found_of given.now))) first
+        × IfSome first (λ n. n < mark_count)) }
+    ensures taken { (first : Option ℕ) → IsNumberIn (one_of (codes "first") (rows_of (found_of given.now))) first → IfSome first (λ n. n < mark_count)
+        → result ≡ Ok (TillTask.List ledger.entry first) }
+    ensures usage { IfErr result (λ why. why ≡ NoTask.Usage) }
+{
     let first = first_given(given)?;
     Ok(TillTask::List { ledger, first })
+}
+
+// The task to renew a ledger. The next mark number isn't raised then.
+fn renewal_asked<'a>(
+    given: &ArgMatches<'a>,
+    ledger: LedgerPath<'a>,
+    new: LedgerPath<'a>,
+) -> Result<TillTask<'a>, NoTask>
+    ensures asks { IfOk result (λ task. (task ≡ TillTask.Renew ledger.entry new.entry) × IsNumberIn (one_of (codes "first") (rows_of (found_of given.now))) None) }
+    ensures taken { IsNumberIn (one_of (codes "first") (rows_of (found_of given.now))) None → result ≡ Ok (TillTask.Renew ledger.entry new.entry) }
+    ensures usage { IfErr result (λ why. why ≡ NoTask.Usage) }
+{
+    match first_given(given)? {
+        None => Ok(TillTask::Renew { ledger, new }),
+        Some(_) => Err(NoTask::Usage),
+    }
+}
+
+// The path of a new ledger, if one is given.
+fn renewal_path<'a>(given: &ArgMatches<'a>) -> Option<LedgerPath<'a>>
+    ensures { first_of (codes "renew") (rows_of (found_of given.now)) ≡ result }
+{
+    match given.get_str("renew") {
+        Some(text) => Some(LedgerPath::new(text)),
+        None => None,
+    }
 }
 
 // The path of the ledger.
@@ -262,7 +302,8 @@ fn ledger_command<'a>(alloc: Global) -> Result<Command<'a>, AllocError>
 {
     let command = Command::new(alloc, "ledger")
         .arg(ledger_argument(alloc))?
-        .arg(option(alloc, "first", false))?;
+        .arg(option(alloc, "first", false))?
+        .arg(option(alloc, "renew", false))?;
     Ok(command)
 }
 

@@ -81,7 +81,7 @@ fn deliveries_that_wait(rt: HostRuntime) {
     }
 }
 
-const ASKED: [(&'static [&'static str], Result<Plain<'static>, NoTask>); 31] = [
+const ASKED: [(&'static [&'static str], Result<Plain<'static>, NoTask>); 34] = [
     (&["queue", "till"], Ok(Plain::Queue("till", 512, None))),
     (
         &["queue", "a/till.db"],
@@ -163,11 +163,23 @@ const ASKED: [(&'static [&'static str], Result<Plain<'static>, NoTask>); 31] = [
     (&["cancel", "--help"], Err(NoTask::Help)),
     (&["cancel", "till", "1", "-h"], Err(NoTask::Help)),
     (&["ledger", "till", "--help"], Err(NoTask::Help)),
+    (
+        &["ledger", "till", "--renew", "next"],
+        Ok(Plain::Renew("till", "next")),
+    ),
+    (
+        &["ledger", "--renew=a/b", "till"],
+        Ok(Plain::Renew("till", "a/b")),
+    ),
+    (
+        &["ledger", "till", "--renew", "till"],
+        Ok(Plain::Renew("till", "till")),
+    ),
     (&["--help"], Err(NoTask::Help)),
 ];
 
 // Words that ask for nothing.
-const USAGE: [&'static [&'static str]; 80] = [
+const USAGE: [&'static [&'static str]; 84] = [
     &[],
     &["check"],
     &["queue"],
@@ -248,6 +260,10 @@ const USAGE: [&'static [&'static str]; 80] = [
     &["ledger", "till", "--first", "1679616"],
     &["ledger", "till", "--first", "-1"],
     &["ledger", "till", "--first", "1", "--first", "1"],
+    &["ledger", "till", "--renew"],
+    &["ledger", "till", "--renew", "a", "--renew", "b"],
+    &["ledger", "till", "--renew", "a", "--first", "1"],
+    &["queue", "till", "--renew", "a"],
 ];
 
 #[test]

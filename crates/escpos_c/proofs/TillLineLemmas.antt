@@ -14,7 +14,7 @@ use Rattle.escpos_till.specs.declared.entry.Entry.TheVariants as entry
 use Rattle.escpos_till.specs.declared.key.TheConstants.{KEY_CHARACTERS}
 use Rattle.escpos_till.specs.Keys.{IsKey, is_key_character}
 use Rattle.std.proofs.lemmas.List.Sums.{AllPass-from_list_all, list_all-from_AllPass}
-use Rattle.escpos_c.specs.TillLines.{IsReal, bytes_in, cancelled_of, entry_in, fields, if_ok, is_key, key_in, kind_in, line_of, mark_in, number_in, queued_in, queued_of, raised_of, recorded_of, replacement_byte, replacement_in, tried_in, tried_of, width_in, word}
+use Rattle.escpos_c.specs.TillLines.{IsReal, bytes_in, cancelled_of, entry_in, earlier_in, earlier_of, fields, if_ok, is_key, key_in, kind_in, line_of, mark_in, number_in, queued_in, queued_of, raised_of, recorded_of, renewed_of, replacement_byte, replacement_in, tried_in, tried_of, width_in, word}
 
 -- ## The fields are bytes
 
@@ -90,6 +90,18 @@ key_found key k (is, same) = ap (λ x. Some (entry.Key x)) same ∙ sym (key_bac
 pub no_key_found : (key : List ℕ) → (IsKey key → ⊥) → None ≡ key_in key
 no_key_found key none = sym (by_test key (is_key key) refl none)
 
+-- A key of a receipt of an older ledger.
+pub earlier_found : (number : ℕ) (key : List ℕ) (k : List ℕ) → IsKey key × (k ≡ key) → Some (entry.Earlier number k) ≡ earlier_of (Some number) key
+earlier_found number key k (is, same) =
+    ap (λ x. Some (entry.Earlier number x)) same ∙ sym (ap (λ b. if b then Some (entry.Earlier number key) else None) (is_key_so key is))
+
+no_earlier : (number : ℕ) (key : List ℕ) (b : Bool) → is_key key ≡ b → (IsKey key → ⊥) → earlier_of (Some number) key ≡ None
+no_earlier number key true is none = absurd (none (key_so key is))
+no_earlier number key false is none = ap (λ b. if b then Some (entry.Earlier number key) else None) is
+
+pub no_earlier_found : (number : ℕ) (key : List ℕ) → (IsKey key → ⊥) → None ≡ earlier_of (Some number) key
+no_earlier_found number key none = sym (no_earlier number key (is_key key) refl none)
+
 -- ## The line
 
 bytes_back : (bytes : List ℕ) → IsBytes bytes → bytes_in (encode_lower bytes) ≡ Some bytes
@@ -105,6 +117,8 @@ fields_are_bytes (entry.Recorded number) real = high_bytes 8 number [] none_more
 fields_are_bytes (entry.Raised next) real = high_bytes 4 next [] none_more
 fields_are_bytes (entry.Cancelled number) real = high_bytes 8 number [] none_more
 fields_are_bytes (entry.Key key) real = real.1
+fields_are_bytes (entry.Renewed last) real = high_bytes 4 last [] none_more
+fields_are_bytes (entry.Earlier number key) real = high_bytes 8 number key real.3
 
 pub read_back : (e : Entry) → IsReal e → entry_in (line_of e) ≡ Some e
 read_back (entry.Queued content) real =
@@ -129,6 +143,13 @@ read_back (entry.Cancelled number) real =
 read_back (entry.Key key) real =
     let e = entry.Key key in
     ap (kind_in key_in) (bytes_back (fields e) (fields_are_bytes e real)) ∙ key_back key real.0
+read_back (entry.Renewed last) real =
+    let e = entry.Renewed last in
+    ap (kind_in (λ bytes. renewed_of (mark_in bytes))) (bytes_back (fields e) (fields_are_bytes e real)) ∙ ap renewed_of (mark_back last real)
+read_back (entry.Earlier number key) real =
+    let e = entry.Earlier number key in
+    ap (kind_in earlier_in) (bytes_back (fields e) (fields_are_bytes e real))
+    ∙ ap (λ o. earlier_of o key) (number_back number real.0 real.1) ∙ sym (earlier_found number key key (real.2, refl))
 
 -- ## No LF
 
@@ -166,6 +187,8 @@ word_no_lf (entry.Recorded number) = refl
 word_no_lf (entry.Raised next) = refl
 word_no_lf (entry.Cancelled number) = refl
 word_no_lf (entry.Key key) = refl
+word_no_lf (entry.Renewed last) = refl
+word_no_lf (entry.Earlier number key) = refl
 
 -- The line of an entry has no LF but its end.
 pub line_no_lf : (e : Entry) → IsReal e → no_lf (line_of e) ≡ true

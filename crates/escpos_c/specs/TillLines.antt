@@ -33,6 +33,12 @@ cancelled_word = codes "cancelled "
 abbrev pub key_word : List ℕ
 key_word = codes "key "
 
+abbrev pub renewed_word : List ℕ
+renewed_word = codes "renewed "
+
+abbrev pub earlier_word : List ℕ
+earlier_word = codes "earlier "
+
 abbrev pub word : Entry → List ℕ
 word (entry.Queued content) = queued_word
 word (entry.Tried number next) = tried_word
@@ -40,6 +46,8 @@ word (entry.Recorded number) = recorded_word
 word (entry.Raised next) = raised_word
 word (entry.Cancelled number) = cancelled_word
 word (entry.Key key) = key_word
+word (entry.Renewed last) = renewed_word
+word (entry.Earlier number key) = earlier_word
 
 -- The replacement of a receipt's options, and 0 where there is none.
 abbrev pub replacement_byte : Option ℕ → ℕ
@@ -47,7 +55,7 @@ replacement_byte None = 0
 replacement_byte (Some code) = code
 
 -- The bytes of the fields: the width of a line in two and the replacement in one, then the receipt's text; the receipt's number in
--- eight, the next mark number in four; the key.
+-- eight, the next mark number in four; the key; the last number of an older ledger in four.
 abbrev pub fields : Entry → List ℕ
 fields (entry.Queued content) = to_be_bytes w16 content.options.width ++ replacement_byte content.options.replacement ∷ content.text
 fields (entry.Tried number next) = to_be_bytes w64 number ++ to_be_bytes w32 next
@@ -55,6 +63,8 @@ fields (entry.Recorded number) = to_be_bytes w64 number
 fields (entry.Raised next) = to_be_bytes w32 next
 fields (entry.Cancelled number) = to_be_bytes w64 number
 fields (entry.Key key) = key
+fields (entry.Renewed last) = to_be_bytes w32 last
+fields (entry.Earlier number key) = to_be_bytes w64 number ++ key
 
 -- The line of an entry, without its end.
 abbrev pub line_of : Entry → List ℕ
@@ -126,23 +136,38 @@ is_key bytes = nat_lt 0 (length bytes) && nat_le (length bytes) KEY_CHARACTERS &
 abbrev pub key_in : List ℕ → Option Entry
 key_in bytes = if is_key bytes then Some (entry.Key bytes) else None
 
+abbrev pub renewed_of : Option ℕ → Option Entry
+renewed_of None = None
+renewed_of (Some last) = Some (entry.Renewed last)
+
+abbrev pub earlier_of : Option ℕ → List ℕ → Option Entry
+earlier_of None key = None
+earlier_of (Some number) key = if is_key key then Some (entry.Earlier number key) else None
+
+abbrev pub earlier_in : List ℕ → Option Entry
+earlier_in bytes = earlier_of (number_in (take 8 bytes)) (drop 8 bytes)
+
 abbrev pub kind_in : (List ℕ → Option Entry) → Option (List ℕ) → Option Entry
 kind_in read None = None
 kind_in read (Some bytes) = read bytes
 
 -- The digits that stand after one of the words; the first word that fits counts.
-abbrev pub digits_in : Option (List ℕ) → Option (List ℕ) → Option (List ℕ) → Option (List ℕ) → Option (List ℕ) → Option (List ℕ) → Option Entry
-digits_in (Some digits) _ _ _ _ _ = kind_in queued_in (bytes_in digits)
-digits_in None (Some digits) _ _ _ _ = kind_in tried_in (bytes_in digits)
-digits_in None None (Some digits) _ _ _ = kind_in (λ bytes. recorded_of (number_in bytes)) (bytes_in digits)
-digits_in None None None (Some digits) _ _ = kind_in (λ bytes. raised_of (mark_in bytes)) (bytes_in digits)
-digits_in None None None None (Some digits) _ = kind_in (λ bytes. cancelled_of (number_in bytes)) (bytes_in digits)
-digits_in None None None None None (Some digits) = kind_in key_in (bytes_in digits)
-digits_in None None None None None None = None
+abbrev pub digits_in : Option (List ℕ) → Option (List ℕ) → Option (List ℕ) → Option (List ℕ) → Option (List ℕ) → Option (List ℕ) → Option (List ℕ) → Option (List ℕ) → Option Entry
+digits_in (Some digits) _ _ _ _ _ _ _ = kind_in queued_in (bytes_in digits)
+digits_in None (Some digits) _ _ _ _ _ _ = kind_in tried_in (bytes_in digits)
+digits_in None None (Some digits) _ _ _ _ _ = kind_in (λ bytes. recorded_of (number_in bytes)) (bytes_in digits)
+digits_in None None None (Some digits) _ _ _ _ = kind_in (λ bytes. raised_of (mark_in bytes)) (bytes_in digits)
+digits_in None None None None (Some digits) _ _ _ = kind_in (λ bytes. cancelled_of (number_in bytes)) (bytes_in digits)
+digits_in None None None None None (Some digits) _ _ = kind_in key_in (bytes_in digits)
+digits_in None None None None None None (Some digits) _ = kind_in (λ bytes. renewed_of (mark_in bytes)) (bytes_in digits)
+digits_in None None None None None None None (Some digits) = kind_in earlier_in (bytes_in digits)
+digits_in None None None None None None None None = None
 
 -- The entry that a line, without its end, is.
 abbrev pub entry_in : List ℕ → Option Entry
-entry_in line = digits_in (after queued_word line) (after tried_word line) (after recorded_word line) (after raised_word line) (after cancelled_word line) (after key_word line)
+entry_in line =
+    digits_in (after queued_word line) (after tried_word line) (after recorded_word line) (after raised_word line) (after cancelled_word line) (after key_word line)
+    (after renewed_word line) (after earlier_word line)
 
 -- ## Entries that there are
 
@@ -156,3 +181,5 @@ IsReal (entry.Recorded number) = (0 < number) × (number < 2 ^ 64)
 IsReal (entry.Raised next) = next < 2 ^ 32
 IsReal (entry.Cancelled number) = (0 < number) × (number < 2 ^ 64)
 IsReal (entry.Key key) = IsKey key × IsBytes key
+IsReal (entry.Renewed last) = last < 2 ^ 32
+IsReal (entry.Earlier number key) = (0 < number) × (number < 2 ^ 64) × IsKey key × IsBytes key

@@ -1,5 +1,5 @@
 -- The numbers in which C is told of a till.
-use Rattle.std.specs.Prelude.{ℕ, ◌+◌, ◌==◌, Option, Some, None, List, ◌-◌, slice_get, if◌then◌else◌}
+use Rattle.std.specs.Prelude.{ℕ, ◌+◌, ◌==◌, nat_le, Option, Some, None, List, ◌-◌, slice_get, if◌then◌else◌}
 use Rattle.escpos_host.specs.declared.send.SendFault.{SendFault}
 use Rattle.escpos_host.specs.declared.send.SendFault.TheVariants as fault
 use Rattle.escpos_host.specs.Machine.{error_number}
@@ -101,6 +101,7 @@ told_of (refusal.MarksUsedUp number) = refused_for 5
 told_of (refusal.MarkReused next) = record { reason = 6; fault = NO_REASON; at = NO_PLACE; next = next }
 told_of (refusal.MarkTooHigh last) = record { reason = 9; fault = NO_REASON; at = NO_PLACE; next = last }
 told_of (refusal.NotTaken number) = refused_for NOT_TAKEN
+told_of (refusal.Earlier number) = refused_for 14
 told_of (refusal.Recorded number) = refused_for 11
 told_of (refusal.Cancelled number) = refused_for 12
 
@@ -116,6 +117,6 @@ standing_at (Some (state.Waiting tried)) = record { kind = 1; number = tried }
 standing_at (Some (state.Recorded place)) = record { kind = 2; number = place }
 standing_at (Some (state.Cancelled tried)) = record { kind = 3; number = tried }
 
--- Where the receipt of this number stands, if there is one: receipts are numbered from 1.
-abbrev pub standing_of : List ReceiptState → ℕ → Standing
-standing_of states number = if number == 0 then standing_at None else standing_at (slice_get states (number - 1))
+-- Where the receipt of this number stands, if there is one: receipts are numbered from 1, or from the number after the last one of an older ledger.
+abbrev pub standing_of : ℕ → List ReceiptState → ℕ → Standing
+standing_of earlier states number = if nat_le number earlier then standing_at None else standing_at (slice_get states (number - (1 + earlier)))

@@ -1,9 +1,9 @@
 //! The till that a handle holds: what its owner asks of it, what it asks for, and what it is told.
 
-ghost use Rattle.std.specs.Prelude.{◌≡◌, ◌↔◌, ℕ, List, length, pos, None, IfErr, IfOk, IsTrue, MatchOption, false};
+ghost use Rattle.std.specs.Prelude.{◌≡◌, ◌↔◌, ◌+◌, ℕ, List, length, pos, None, IfErr, IfOk, IsTrue, MatchOption, false};
 ghost use Rattle.escpos_till.specs.declared.entry.Entry.{Entry};
 ghost use Rattle.escpos_till.specs.Book.{IsBookOf};
-ghost use Rattle.escpos_till.specs.Entries.{states};
+ghost use Rattle.escpos_till.specs.Entries.{earlier, states};
 ghost use Rattle.escpos_till.specs.Machine.{Came, IsPausing, hung_up, told};
 ghost use Rattle.escpos_c.specs.declared.refusal.TheConstants.{NO_REASON};
 ghost use Rattle.escpos_c.specs.Given.{receipt_options};
@@ -324,7 +324,7 @@ pub extern "C" fn escpos_till_told(alloc: Global, till: &mut TillHandle) -> i32
     CallStatus::Good.number()
 }
 
-/// How many receipts were taken. They have the numbers from 1 up to this.
+/// The number of the receipt that was taken last, here or in an older ledger; 0 if none was.
 #[unsafe(no_mangle)]
 pub extern "C" fn escpos_till_receipts(
     alloc: Global,
@@ -333,7 +333,7 @@ pub extern "C" fn escpos_till_receipts(
 ) -> i32
     ensures same { till.new.value ≡ till.old.value }
     ensures told { MatchOption till.old.value ((result ≡ pos 2) × (receipts.new ≡ 0))
-        (λ core. (result ≡ pos 0) × ((entries : List Entry) → IsBookOf core.machine.book entries → receipts.new ≡ length (states entries))) }
+        (λ core. (result ≡ pos 0) × ((entries : List Entry) → IsBookOf core.machine.book entries → receipts.new ≡ earlier entries + length (states entries))) }
 {
     let Some(core) = till.take(alloc) else {
         *receipts = 0;
@@ -355,7 +355,7 @@ pub extern "C" fn escpos_till_standing(
     ensures same { till.new.value ≡ till.old.value }
     ensures told { MatchOption till.old.value ((result ≡ pos 2) × (standing.new ≡ standing_at None))
         (λ core. (result ≡ pos 0)
-        × ((entries : List Entry) → IsBookOf core.machine.book entries → standing.new ≡ standing_of (states entries) number)) }
+        × ((entries : List Entry) → IsBookOf core.machine.book entries → standing.new ≡ standing_of (earlier entries) (states entries) number)) }
 {
     let Some(core) = till.take(alloc) else {
         *standing = Standing::none();

@@ -1,11 +1,11 @@
 //! The machine that a handle holds, and what C is told of it.
 
-ghost use Rattle.std.specs.Prelude.{◌≡◌, List, length, IfSome, IfOk, IfErr, IsTrue, OnOk};
+ghost use Rattle.std.specs.Prelude.{◌≡◌, ◌+◌, List, length, IfSome, IfOk, IfErr, IsTrue, OnOk};
 ghost use Rattle.escpos_command.specs.declared.command.Command.{Command};
 ghost use Rattle.escpos_till.specs.declared.entry.Entry.{Entry as EntryValue};
 ghost use Rattle.escpos_till.specs.Book.{IsBookOf};
 ghost use Rattle.escpos_till.specs.Contents.{content_with};
-ghost use Rattle.escpos_till.specs.Entries.{states};
+ghost use Rattle.escpos_till.specs.Entries.{earlier, states};
 ghost use Rattle.escpos_till.specs.Machine.{Queues, RefusesAny, SameEntries};
 ghost use Rattle.escpos_c.specs.EncodeCalls.{GivesReceipt};
 ghost use Rattle.escpos_c.specs.Reasons.{IsReason};
@@ -197,18 +197,18 @@ impl TillCore {
         }
     }
 
-    /// How many receipts were taken.
+    /// The number of the receipt that was taken last, here or in an older ledger; 0 if none was.
     pub fn receipts(&self) -> usize
-        ensures { (entries : List EntryValue) → IsBookOf self.now.machine.book entries → result ≡ length (states entries) }
+        ensures { (entries : List EntryValue) → IsBookOf self.now.machine.book entries → result ≡ earlier entries + length (states entries) }
     {
-        self.machine.states().len()
+        self.machine.earlier() as usize + self.machine.states().len()
     }
 
     /// Where the receipt of this number stands.
     pub fn standing(&self, number: usize) -> Standing
-        ensures { (entries : List EntryValue) → IsBookOf self.now.machine.book entries → result ≡ standing_of (states entries) number }
+        ensures { (entries : List EntryValue) → IsBookOf self.now.machine.book entries → result ≡ standing_of (earlier entries) (states entries) number }
     {
-        standing_of(self.machine.states(), number)
+        standing_of(self.machine.earlier(), self.machine.states(), number)
     }
 }
 

@@ -9,11 +9,13 @@
 //!   raised    | the next mark number in 8 digits
 //!   cancelled | the receipt's number in 16 digits
 //!   key       | the key of the receipt that the next line takes
+//!   renewed   | the last number of an older ledger in 8 digits
+//!   earlier   | the number of a receipt of the older ledger in 16 digits, its key
 
 ghost use Rattle.std.specs.Prelude.{◌≡◌, ◌++◌, [], ◌∷◌, Option, Some, None, option_map, IfOk, OnOk, IsErrOf};
 ghost use Rattle.std.specs.Int.{w16, w32, w64, to_be_bytes};
 ghost use Rattle.escpos_till.specs.declared.entry.Entry.{Entry as EntryValue};
-ghost use Rattle.escpos_c.specs.TillLines.{IsReal, after, bytes_in, cancelled_of, ended_line, entry_in, fields, key_in, line_of, mark_in, number_in, queued_in, raised_of, recorded_of, replacement_byte, replacement_in, tried_in, width_in, word};
+ghost use Rattle.escpos_c.specs.TillLines.{IsReal, after, bytes_in, cancelled_of, earlier_in, earlier_of, ended_line, entry_in, fields, key_in, line_of, mark_in, number_in, queued_in, raised_of, recorded_of, renewed_of, replacement_byte, replacement_in, tried_in, width_in, word};
 
 use escpos_command::{LF, LineWidth};
 use escpos_receipt::ReceiptOptions;
@@ -55,6 +57,8 @@ fn word(entry: &Entry) -> &'static [u8]
         Entry::Raised { .. } => b"raised ",
         Entry::Cancelled { .. } => b"cancelled ",
         Entry::Key { .. } => b"key ",
+        Entry::Renewed { .. } => b"renewed ",
+        Entry::Earlier { .. } => b"earlier ",
     }
 }
 
@@ -78,6 +82,11 @@ fn fields(alloc: Global, entry: &Entry) -> Result<Vec<u8>, AllocError>
         }
         Entry::Raised { next } => bytes.extend_from_slice(&next.to_be_bytes())?,
         Entry::Key { key } => bytes.extend_from_slice(key.bytes())?,
+        Entry::Renewed { last } => bytes.extend_from_slice(&last.to_be_bytes())?,
+        Entry::Earlier { number, key } => {
+            bytes.extend_from_slice(&number.get().to_be_bytes())?;
+            bytes.extend_from_slice(key.bytes())?;
+        }
     }
     Ok(bytes)
 }
@@ -114,6 +123,12 @@ pub fn entry_in(alloc: Global, line: &[u8]) -> Result<Entry, NoEntry>
     }
     if let Some(digits) = after(b"key ", line) {
         return key_in(&bytes_in(alloc, digits)?).ok_or(NoEntry::Damaged);
+    }
+    if let Some(digits) = after(b"renewed ", line) {
+        return renewed_in(&bytes_in(alloc, digits)?).ok_or(NoEntry::Damaged);
+    }
+    if let Some(digits) = after(b"earlier ", line) {
+        return earlier_in(&bytes_in(alloc, digits)?).ok_or(NoEntry::Damaged);
     }
     Err(NoEntry::Damaged)
 }
@@ -232,6 +247,40 @@ fn key_in(bytes: &[u8]) -> Option<Entry>
 {
     match ReceiptKey::new(bytes) {
         Some(key) => Some(Entry::Key { key }),
+        None => None,
+    }
+}
+
+// The entry by which a ledger goes on from an older one, from its field.
+fn renewed_in(bytes: &[u8]) -> Option<Entry>
+    ensures { result ≡ renewed_of (mark_in bytes.now) }
+{
+    match mark_in(bytes) {
+        Some(last) => Some(Entry::Renewed { last }),
+        None => None,
+    }
+}
+
+// The entry by which the key of a receipt of an older ledger is said, from its fields.
+fn earlier_in(bytes: &[u8]) -> Option<Entry>
+    ensures { result ≡ earlier_in bytes.now }
+{
+    if bytes.len() < 8 {
+        return None;
+    }
+    let (number, key) = bytes.split_at(8);
+    match number_in(number) {
+        Some(number) => earlier_of(number, key),
+        None => None,
+    }
+}
+
+// The entry by which this key of a receipt of an older ledger is said.
+fn earlier_of(number: ReceiptNumber, bytes: &[u8]) -> Option<Entry>
+    ensures { result ≡ earlier_of (Some number) bytes.now }
+{
+    match ReceiptKey::new(bytes) {
+        Some(key) => Some(Entry::Earlier { number, key }),
         None => None,
     }
 }

@@ -260,6 +260,7 @@ fn refused(why: TillRefusal) -> (CallStatus, Told)
         TillRefusal::MarkReused { next } => (CallStatus::Refused, Told::number(6, next)),
         TillRefusal::MarkTooHigh { last } => (CallStatus::Refused, Told::number(9, last)),
         TillRefusal::NotTaken(_) => (CallStatus::Refused, Told::reason(NOT_TAKEN)),
+        TillRefusal::Earlier(_) => (CallStatus::Refused, Told::reason(14)),
         TillRefusal::Recorded(_) => (CallStatus::Refused, Told::reason(11)),
         TillRefusal::Cancelled(_) => (CallStatus::Refused, Told::reason(12)),
     }
@@ -274,14 +275,15 @@ impl Standing {
     }
 }
 
-/// Where the receipt of this number stands.
-pub fn standing_of(states: &[ReceiptState], number: usize) -> Standing
-    ensures { result ≡ standing_of states.now number }
+/// Where the receipt of this number stands, where an older ledger has taken so many.
+pub fn standing_of(earlier: u32, states: &[ReceiptState], number: usize) -> Standing
+    ensures { result ≡ standing_of earlier states.now number }
 {
-    if number == 0 {
+    let earlier = earlier as usize;
+    if number <= earlier {
         return Standing::none();
     }
-    match states.get(number - 1) {
+    match states.get(number - (1 + earlier)) {
         None => Standing::none(),
         Some(ReceiptState::Waiting { tried }) => Standing {
             kind: 1,

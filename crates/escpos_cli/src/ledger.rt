@@ -7,7 +7,7 @@ ghost use Rattle.std.specs.Prelude.{◌≡◌};
 
 use escpos_store::SqliteStore;
 use escpos_till::NoStore;
-use escpos_till_jobs::{LedgerPath, Ledgers, SharedStore};
+use escpos_till_jobs::{LedgerPath, Ledgers, NewLedgers, NoRenewal, SharedStore};
 use sqlite::{FileFrom, FileStore, Unknown};
 use std::fs::{File, OpenOptions, TryLockError};
 use std::io::ErrorKind;
@@ -119,6 +119,112 @@ impl<'r> Ledgers<SharedFileStore<'r>> for SharedFiles<'r> {
     fn close(&mut self, store: SharedFileStore<'r>) {
         let mut store = store;
         store.end();
+    }
+}
+
+/// New ledgers in files. One is written to the file whose name ends in `-renewing`, beside the place that it gets.
+#[derive(Drop)]
+pub struct NewFiles<'r> {
+    rt: &'r HostRuntime,
+    // where the ledger is that is renewed
+    old: &'r str,
+}
+
+impl<'r> NewFiles<'r> {
+    /// The files that this program can reach, while the ledger at this path is renewed.
+    pub fn new(rt: &'r HostRuntime, old: &'r str) -> Self
+        ensures { result.rt.now ≡ rt.now }
+    {
+        NewFiles { rt, old }
+    }
+
+    // Whether there is a file at a path, or a ledger's log beside it.
+    fn is_taken(&self, path: &str) -> io::Result<bool> {
+        let log = format!(in self.rt.alloc(); "{path}-wal")?;
+        Ok(fs::exists(self.rt, path)? || fs::exists(self.rt, log.as_str())?)
+    }
+
+    // Whether the ledger that is renewed is at this path.
+    fn is_old(&self, path: &str) -> io::Result<bool> {
+        if !fs::exists(self.rt, path)? {
+            return Ok(false);
+        }
+        let real = fs::canonicalize(self.rt, path)?;
+        let old = fs::canonicalize(self.rt, self.old)?;
+        Ok(real.as_str() == old.as_str())
+    }
+
+    // The path at which a ledger for this path is written. What an earlier renewal left there is removed.
+    fn draft(&self, path: &str) -> io::Result<Option<String>> {
+        let draft = format!(in self.rt.alloc(); "{path}-renewing")?;
+        if self.is_taken(path)? || self.is_old(draft.as_str())? {
+            return Ok(None);
+        }
+        let log = format!(in self.rt.alloc(); "{}-wal", draft.as_str())?;
+        remove_if_there(self.rt, draft.as_str())?;
+        remove_if_there(self.rt, log.as_str())?;
+        Ok(Some(draft))
+    }
+
+    // Gives the draft its name, so that it has it after a crash too. `AlreadyExists` is answered where something has that name.
+    fn name(&self, path: &str) -> io::Result<()> {
+        let draft = format!(in self.rt.alloc(); "{path}-renewing")?;
+        let log = format!(in self.rt.alloc(); "{}-wal", draft.as_str())?;
+        remove_if_there(self.rt, log.as_str())?;
+        match fs::hard_link(self.rt, draft.as_str(), path) {
+            Ok(()) => remove_if_there(self.rt, draft.as_str())?,
+            Err(why) if why.kind() == ErrorKind::AlreadyExists => return Err(why),
+            // a file system on which no file has two names
+            Err(_) => fs::rename(self.rt, draft.as_str(), path)?,
+        }
+        let folder = match path.rfind('/') {
+            Some(0) => "/",
+            Some(at) => &path[..at],
+            None => ".",
+        };
+        OpenOptions::new()
+            .read(true)
+            .open(self.rt, folder)?
+            .sync_all()
+    }
+}
+
+impl NewLedgers<FileLedgerStore> for NewFiles<'_> {
+    ghost begun = { λ old path result new. new ≡ old };
+
+    ghost finished = { λ old store path result new. new ≡ old };
+
+    fn begin(&mut self, path: &LedgerPath<'_>) -> Result<FileLedgerStore, NoRenewal> {
+        match self.draft(path.text()) {
+            Ok(Some(draft)) => LedgerFiles::new(self.rt)
+                .open(&LedgerPath::new(draft.as_str()))
+                .map_err(|why| NoRenewal::NoStore(why)),
+            Ok(None) => Err(NoRenewal::Exists),
+            Err(why) => Err(not_made(&why)),
+        }
+    }
+
+    // The log is copied into the database file before it gets its name.
+    fn finish(&mut self, store: FileLedgerStore, path: &LedgerPath<'_>) -> Result<(), NoRenewal> {
+        match store.into_files() {
+            Ok(_) => self.name(path.text()).map_err(|why| not_made(&why)),
+            Err(_) => Err(NoRenewal::NoStore(NoStore::Failed)),
+        }
+    }
+}
+
+fn remove_if_there(rt: &HostRuntime, path: &str) -> io::Result<()> {
+    match fs::remove_file(rt, path) {
+        Err(why) if why.kind() != ErrorKind::NotFound => Err(why),
+        _ => Ok(()),
+    }
+}
+
+// Why no new ledger is made.
+fn not_made(why: &io::Error) -> NoRenewal {
+    match why.kind() {
+        ErrorKind::AlreadyExists => NoRenewal::Exists,
+        _ => NoRenewal::NoStore(no_line(why)),
     }
 }
 

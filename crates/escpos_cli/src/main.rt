@@ -9,7 +9,7 @@ ghost use Rattle.std.specs.Prelude.{◌≡◌, ◌≢◌, IfErr, IfOk, IsTrue};
 
 mod ledger;
 
-use crate::ledger::{LedgerFiles, SharedFiles};
+use crate::ledger::{LedgerFiles, NewFiles, SharedFiles};
 pub use escpos_arguments::{
     asks_version, completions_of, is_completions_word, is_probe_word, is_till_word, probe_task_of,
     task_of, till_task_of, without_name,
@@ -24,7 +24,7 @@ pub use escpos_jobs::{
     check, draw, emulate, encode, loop_link, perform, play, render, send, status, task,
 };
 use escpos_probe::probe;
-use escpos_till_jobs::{NetworkLines, perform_till};
+use escpos_till_jobs::{NetworkLines, TillTask, perform_till};
 use std::process::ExitCode;
 use std::{env, io};
 
@@ -74,11 +74,13 @@ fn perform_word<R: ByteIn, W: ByteOut>(
         let task = till_task_of(rt.alloc(), words)?;
         let mut ledgers = LedgerFiles::new(rt);
         let mut shared = SharedFiles::new(rt);
+        let mut news = NewFiles::new(rt, renewed_path(&task));
         let mut lines = NetworkLines::new(rt);
         return Ok(perform_till(
             rt.alloc(),
             &mut ledgers,
             &mut shared,
+            &mut news,
             &mut lines,
             task,
             input,
@@ -95,6 +97,14 @@ fn perform_word<R: ByteIn, W: ByteOut>(
     }
     let task = task_of(rt.alloc(), words)?;
     Ok(perform(rt, rt.alloc(), Ok(task), input, output))
+}
+
+// Where the ledger is that a task renews; nowhere for another task.
+fn renewed_path<'a>(task: &TillTask<'a>) -> &'a str {
+    match task {
+        TillTask::Renew { ledger, .. } => ledger.text(),
+        _ => "",
+    }
 }
 
 // Says why these arguments name no task. Help after a word is its part of the help.

@@ -30,7 +30,7 @@ usage: escpos_cli check [--raw] < STREAM
        escpos_cli deliver LEDGER ADDRESS [--openings N] [--copy TEXT]
                                          [--wait S] [--patience P]
        escpos_cli cancel LEDGER N
-       escpos_cli ledger LEDGER [--first F]
+       escpos_cli ledger LEDGER [--first F | --renew NEW]
        escpos_cli completions bash|zsh|fish
        escpos_cli help
        escpos_cli --version
@@ -558,7 +558,7 @@ line `memory` says that the program ran out of memory.
           $ escpos_cli cancel shop.ledger 2
           cancelled 2
 
-  escpos_cli ledger LEDGER [--first F]
+  escpos_cli ledger LEDGER [--first F | --renew NEW]
       Lists the receipts, a line each: `N waiting`; `N tried K`, sent K times
       and not known to be printed; `N recorded R`, R its place among those
       recorded, from 0; or `N cancelled`, and ` tried K` if it was sent. The
@@ -570,9 +570,18 @@ line `memory` says that the program ran out of memory.
           1 recorded 0
           next 4
 
-      If another process has the ledger open, the one line is `ledger in use`;
-      if LEDGER is another kind of file, or damaged, `no ledger`; and if a read
-      or a write failed, `ledger failed`. So it is for the others.
+      With --renew a new ledger goes on from it, in the file NEW, which mustn't
+      be there yet: it has what waits, the next numbers, and the keys of the last
+      1000 receipts. LEDGER isn't used any more. The line is `renewed W`, where
+      W receipts wait, or `refused Exists` if NEW is there.
+
+          $ escpos_cli ledger shop.ledger --renew shop-2.ledger
+          renewed 0
+
+      If another process uses the ledger for longer than 5 seconds, or delivers
+      from it when `deliver` or --renew is asked for, the one line is `ledger in
+      use`; if LEDGER is another kind of file, or damaged, `no ledger`; and if a
+      read or a write failed, `ledger failed`. So it is for the others.
 
   escpos_cli completions bash|zsh|fish
       Prints a script that completes the words of escpos_cli in that shell.

@@ -71,6 +71,8 @@ kind_of (entry.Recorded number) = 3
 kind_of (entry.Raised next) = 4
 kind_of (entry.Cancelled number) = 5
 kind_of (entry.Key key) = 6
+kind_of (entry.Renewed last) = 7
+kind_of (entry.Earlier number key) = 8
 
 -- The dots of a receipt's lines, but 0 for the usual 512, as in ledgers that know no other width. A line has 1 dot at least, so
 -- that 512 for none makes the numbers of all widths differ.
@@ -82,7 +84,8 @@ abbrev pub replacement_number : Option ℕ → ℕ
 replacement_number None = 0
 replacement_number (Some code) = code + 1
 
--- the receipt's number; in an entry by which a receipt is taken the width of its lines, and 0 in an entry that has neither
+-- the receipt's number, or the last one of an older ledger; in an entry by which a receipt is taken the width of its lines, and 0 in an entry that
+-- has none of these
 abbrev pub number_of : Entry → ℕ
 number_of (entry.Queued content) = width_number content.options.width
 number_of (entry.Tried number next) = number
@@ -90,6 +93,8 @@ number_of (entry.Recorded number) = number
 number_of (entry.Raised next) = 0
 number_of (entry.Cancelled number) = number
 number_of (entry.Key key) = 0
+number_of (entry.Renewed last) = last
+number_of (entry.Earlier number key) = number
 
 -- the mark number that is free afterwards; in an entry by which a receipt is taken its replacement, and 0 in an entry that has neither
 abbrev pub next_of : Entry → ℕ
@@ -99,6 +104,8 @@ next_of (entry.Recorded number) = 0
 next_of (entry.Raised next) = next
 next_of (entry.Cancelled number) = 0
 next_of (entry.Key key) = 0
+next_of (entry.Renewed last) = 0
+next_of (entry.Earlier number key) = 0
 
 -- the receipt's text, or its key, and NULL in an entry that has neither
 abbrev pub content_of : Entry → Value
@@ -108,13 +115,15 @@ content_of (entry.Recorded number) = Null
 content_of (entry.Raised next) = Null
 content_of (entry.Cancelled number) = Null
 content_of (entry.Key key) = Bytes key
+content_of (entry.Renewed last) = Null
+content_of (entry.Earlier number key) = Bytes key
 
 -- the row of an entry: id, kind, number, next, content
 abbrev pub row_of : ℕ → Entry → Row
 row_of id e = Int (pos id) ∷ Int (pos (kind_of e)) ∷ Int (pos (number_of e)) ∷ Int (pos (next_of e)) ∷ content_of e ∷ []
 
--- The entry is one that the types have: receipt numbers begin at 1, a mark number has 32 bits, the width and the replacement of a
--- receipt's options are ones that there are, and a key is one.
+-- The entry is one that the types have: receipt numbers begin at 1, a mark number has 32 bits, and so has the last number of an older ledger, the
+-- width and the replacement of a receipt's options are ones that there are, and a key is one.
 abbrev pub IsReal : Entry → Type 0
 IsReal (entry.Queued content) = IsTrue (is_line_width content.options.width) × IfSome content.options.replacement (λ code. IsTrue (is_replacement code))
 IsReal (entry.Tried number next) = (0 < number) × (next < 2 ^ 32)
@@ -122,6 +131,8 @@ IsReal (entry.Recorded number) = 0 < number
 IsReal (entry.Raised next) = next < 2 ^ 32
 IsReal (entry.Cancelled number) = 0 < number
 IsReal (entry.Key key) = IsKey key
+IsReal (entry.Renewed last) = last < 2 ^ 32
+IsReal (entry.Earlier number key) = (0 < number) × IsKey key
 
 abbrev pub rows_from : ℕ → List Entry → List Row
 rows_from id [] = []

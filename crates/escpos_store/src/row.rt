@@ -26,7 +26,7 @@ pub fn id(number: usize) -> Option<ValueRef<'static>>
     Some(ValueRef::Int(i64::try_from(number).ok()?))
 }
 
-/// The kind: 1 for Queued, 2 for Tried, 3 for Recorded, 4 for Raised, 5 for Cancelled, 6 for Key.
+/// The kind: 1 for Queued, 2 for Tried, 3 for Recorded, 4 for Raised, 5 for Cancelled, 6 for Key, 7 for Renewed, 8 for Earlier.
 pub fn kind(entry: &Entry) -> ValueRef<'static>
     ensures { owned result ≡ Int (pos (kind_of entry.now)) }
 {
@@ -37,11 +37,13 @@ pub fn kind(entry: &Entry) -> ValueRef<'static>
         Entry::Raised { .. } => 4,
         Entry::Cancelled { .. } => 5,
         Entry::Key { .. } => 6,
+        Entry::Renewed { .. } => 7,
+        Entry::Earlier { .. } => 8,
     })
 }
 
-/// The receipt's number; in an entry by which a receipt is taken the width of its lines, and 0 in an entry that has neither;
-/// `None` past 2^63.
+/// The receipt's number, or the last one of an older ledger; in an entry by which a receipt is taken the width of its lines, and 0
+/// in an entry that has none of these; `None` past 2^63.
 pub fn number(entry: &Entry) -> Option<ValueRef<'static>>
     ensures number { IfSome result (λ number. owned number ≡ Int (pos (number_of entry.now))) }
     ensures given { number_of entry.now < 2 ^ 63 → result ≢ None }
@@ -49,8 +51,11 @@ pub fn number(entry: &Entry) -> Option<ValueRef<'static>>
     let number = match entry {
         Entry::Queued { content } => width_number(content.options.width),
         Entry::Raised { .. } | Entry::Key { .. } => 0,
-        Entry::Tried { number, .. } | Entry::Recorded { number } | Entry::Cancelled { number } =>
-            number.get(),
+        Entry::Tried { number, .. }
+        | Entry::Recorded { number }
+        | Entry::Cancelled { number }
+        | Entry::Earlier { number, .. } => number.get(),
+        Entry::Renewed { last } => *last as usize,
     };
     Some(ValueRef::Int(i64::try_from(number).ok()?))
 }
@@ -74,7 +79,11 @@ pub fn next(entry: &Entry) -> ValueRef<'static>
 {
     ValueRef::Int(match entry {
         Entry::Queued { content } => replacement_number(content.options.replacement),
-        Entry::Recorded { .. } | Entry::Cancelled { .. } | Entry::Key { .. } => 0,
+        Entry::Recorded { .. }
+        | Entry::Cancelled { .. }
+        | Entry::Key { .. }
+        | Entry::Renewed { .. }
+        | Entry::Earlier { .. } => 0,
         Entry::Tried { next, .. } | Entry::Raised { next } => i64::from(*next),
     })
 }
@@ -95,11 +104,12 @@ pub fn content(entry: &Entry) -> ValueRef<'_>
 {
     match entry {
         Entry::Queued { content } => ValueRef::Blob(content.bytes()),
-        Entry::Key { key } => ValueRef::Blob(key.bytes()),
+        Entry::Key { key } | Entry::Earlier { key, .. } => ValueRef::Blob(key.bytes()),
         Entry::Tried { .. }
         | Entry::Recorded { .. }
         | Entry::Raised { .. }
-        | Entry::Cancelled { .. } => ValueRef::Null,
+        | Entry::Cancelled { .. }
+        | Entry::Renewed { .. } => ValueRef::Null,
     }
 }
 
@@ -156,6 +166,7 @@ fn entry_with_content(
     match kind {
         1 => queued(alloc, number, next, bytes),
         6 if number == 0 && next == 0 => Ok(keyed(bytes)),
+        8 if next == 0 => Ok(earlier(number, bytes)),
         _ => Ok(None),
     }
 }
@@ -168,6 +179,17 @@ fn keyed(bytes: &[u8]) -> Option<Entry>
     match ReceiptKey::new(bytes) {
         Some(key) => Some(Entry::Key { key }),
         None => None,
+    }
+}
+
+// The entry that says that this receipt of an older ledger came with this key, if it is one.
+fn earlier(number: u64, bytes: &[u8]) -> Option<Entry>
+    ensures entry { IfSome result (λ entry. entry ≡ Entry.Earlier number bytes.now) }
+    ensures none { result ≡ None → 0 < number → ¬ IsKey bytes.now }
+{
+    match (receipt_number(number), ReceiptKey::new(bytes)) {
+        (Some(number), Some(key)) => Some(Entry::Earlier { number, key }),
+        _ => None,
     }
 }
 
@@ -228,6 +250,9 @@ fn entry_without_content(kind: u64, number: u64, next: u64) -> Option<Entry>
         }),
         5 if next == 0 => Some(Entry::Cancelled {
             number: receipt_number(number)?,
+        }),
+        7 if next == 0 => Some(Entry::Renewed {
+            last: u32::try_from(number).ok()?,
         }),
         _ => None,
     }

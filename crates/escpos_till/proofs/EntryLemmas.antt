@@ -10,10 +10,10 @@ use Rattle.std.proofs.lemmas.List.Sums.{count_by-le-length, sum_by-append}
 use Rattle.std.proofs.lemmas.Option.{same_Some, slice_get_within}
 use Rattle.escpos_till.specs.declared.entry.Content.{Content}
 use Rattle.escpos_till.specs.declared.entry.Entry.{Entry}
-use Rattle.escpos_till.specs.declared.entry.Entry.TheVariants.{Queued, Tried, Recorded, Raised, Cancelled, Key}
+use Rattle.escpos_till.specs.declared.entry.Entry.TheVariants.{Queued, Tried, Recorded, Raised, Cancelled, Key, Renewed, Earlier}
 use Rattle.escpos_till.specs.declared.state.ReceiptState.TheVariants as state
 use Rattle.escpos_till.specs.Delivers.{FirstWaits}
-use Rattle.escpos_till.specs.Entries.{IsLedger, MayFollow, Taken, Waits, cancel_of, cancel_place_of, cancelled, content_of, contents, is_open, is_try_of, last_or, next_free, next_of, numbered_from, place_of, record_of, recorded, state_by, state_of, states, taken, times_tried, waiting}
+use Rattle.escpos_till.specs.Entries.{IsLedger, MayFollow, Taken, Waits, cancel_of, cancel_place_of, cancelled, content_of, contents, earlier, earlier_of, is_open, is_try_of, last_number, last_or, next_free, next_of, numbered_from, place_here, place_of, record_of, recorded, state_by, state_of, states, taken, times_tried, waiting}
 
 -- ## Tests and places
 
@@ -116,12 +116,12 @@ times-snoc es e n = sum_by-append (λ x. cond (is_try_of n x) 1 0) es (e ∷ [])
 times-cons : (es : List Entry) (e : Entry) (n : ℕ) → times_tried (e ∷ es) n ≡ (0 + one_if (is_try_of n e)) + times_tried es n
 times-cons es e n = sum_by-append (λ x. cond (is_try_of n x) 1 0) (e ∷ []) es
 
-same_times : (es : List Entry) (e : Entry) (n : ℕ) → is_try_of n e ≡ false → times_tried (es ++ e ∷ []) n ≡ times_tried es n
+pub same_times : (es : List Entry) (e : Entry) (n : ℕ) → is_try_of n e ≡ false → times_tried (es ++ e ∷ []) n ≡ times_tried es n
 same_times es e n h =
     let more : one_if (is_try_of n e) ≡ 0 = ap one_if h in
     omega (arith, times-snoc es e n, more)
 
-one_more_time : (es : List Entry) (e : Entry) (n : ℕ) → is_try_of n e ≡ true → times_tried (es ++ e ∷ []) n ≡ times_tried es n + 1
+pub one_more_time : (es : List Entry) (e : Entry) (n : ℕ) → is_try_of n e ≡ true → times_tried (es ++ e ∷ []) n ≡ times_tried es n + 1
 one_more_time es e n h =
     let more : one_if (is_try_of n e) ≡ 1 = ap one_if h in
     omega (arith, times-snoc es e n, more)
@@ -148,8 +148,37 @@ next_after_recorded es n = ap (last_or 0) (nexts-snoc es (Recorded n) ∙ append
 pub next_after_cancelled : (es : List Entry) (n : ℕ) → next_free (es ++ Cancelled n ∷ []) ≡ next_free es
 next_after_cancelled es n = ap (last_or 0) (nexts-snoc es (Cancelled n) ∙ append-nil (filter_map next_of es))
 
+pub next_after_earlier : (es : List Entry) (n : ℕ) (key : List ℕ) → next_free (es ++ Earlier n key ∷ []) ≡ next_free es
+next_after_earlier es n key = ap (last_or 0) (nexts-snoc es (Earlier n key) ∙ append-nil (filter_map next_of es))
+
+pub next_after_renewed : (es : List Entry) (last : ℕ) → next_free (es ++ Renewed last ∷ []) ≡ next_free es
+next_after_renewed es last = ap (last_or 0) (nexts-snoc es (Renewed last) ∙ append-nil (filter_map next_of es))
+
 pub next_after_key : (es : List Entry) (key : List ℕ) → next_free (es ++ Key key ∷ []) ≡ next_free es
 next_after_key es key = ap (last_or 0) (nexts-snoc es (Key key) ∙ append-nil (filter_map next_of es))
+
+-- ## The older ledger
+
+-- What a list says at its start is said where more follows.
+pub earlier_grows : (es more : List Entry) → earlier es ≤ earlier (es ++ more)
+earlier_grows [] more = omega arith
+earlier_grows (e ∷ es) more = omega arith
+
+pub earlier-snoc : (es : List Entry) (e : Entry) → earlier_of e ≡ 0 → earlier (es ++ e ∷ []) ≡ earlier es
+earlier-snoc [] e h = h
+earlier-snoc (x ∷ es) e h = refl
+
+pub last_grows : (es more : List Entry) → last_number es ≤ last_number (es ++ more)
+last_grows es more =
+    omega (arith, earlier_grows es more, ap length (filter_map-append content_of es more), length-append (contents es) (contents more))
+
+-- By an entry that takes no receipt, here or in an older ledger.
+pub last_same : (es : List Entry) (e : Entry) → earlier_of e ≡ 0 → contents (e ∷ []) ≡ [] → last_number (es ++ e ∷ []) ≡ last_number es
+last_same es e older none = omega (arith, earlier-snoc es e older, ap length (same_contents es e none))
+
+numbers_stay : {X : Type 0} (f : ℕ → X) (es : List Entry) (e : Entry) → earlier_of e ≡ 0
+    → map (λ t. f t.number) (taken (es ++ e ∷ [])) ≡ map (λ t. f t.number) (numbered_from (1 + earlier es) (contents (es ++ e ∷ [])))
+numbers_stay f es e h = ap (λ k. map (λ t. f t.number) (numbered_from (1 + k) (contents (es ++ e ∷ [])))) (earlier-snoc es e h)
 
 -- ## Ledgers
 
@@ -195,44 +224,51 @@ abbrev IsUnknown : List Entry → ℕ → Type 0
 IsUnknown es n =
     (times_tried es n ≡ 0) × ((i : ℕ) → position_from (λ m. m == n) i (recorded es) ≡ None) × ((i : ℕ) → position_from (λ m. m == n) i (cancelled es) ≡ None)
 
-below_count : (before es : List Entry) (m n : ℕ) → Waits before m → length (contents (before ++ es)) < n → m ≢ n
+below_count : (before es : List Entry) (m n : ℕ) → Waits before m → last_number (before ++ es) < n → m ≢ n
 below_count before es m n w few same =
-    let joined : length (contents (before ++ es)) ≡ length (contents before) + length (contents es) = ap length (filter_map-append content_of before es) ∙ length-append (contents before) (contents es) in
-    let within : m ≤ length (contents before) = subst (λ k. m ≤ k) (length-taken 1 (contents before)) w.taken in
-    absurd (omega (arith, joined, within, few, same))
+    let within : m ≤ last_number before = w.taken in
+    absurd (omega (arith, last_grows before es, within, few, same))
 
-unknown_in : (before es : List Entry) (n : ℕ) → Continues before es → length (contents (before ++ es)) < n → IsUnknown es n
+unknown_in : (before es : List Entry) (n : ℕ) → Continues before es → last_number (before ++ es) < n → IsUnknown es n
 unknown_in before [] n h few = (refl, λ i. refl, λ i. refl)
 unknown_in before (Queued content ∷ es) n h few =
     let rest = unknown_in (before ++ Queued content ∷ []) es n (continues_later before (Queued content) es h)
-    (subst (λ front. length (contents front) < n) (sym (append_assoc before (Queued content ∷ []) es)) few) in
+    (subst (λ front. last_number front < n) (sym (append_assoc before (Queued content ∷ []) es)) few) in
     (omega (arith, rest.0), rest.1, rest.2)
 unknown_in before (Tried m next ∷ es) n h few =
     let rest = unknown_in (before ++ Tried m next ∷ []) es n (continues_later before (Tried m next) es h)
-    (subst (λ front. length (contents front) < n) (sym (append_assoc before (Tried m next ∷ []) es)) few) in
+    (subst (λ front. last_number front < n) (sym (append_assoc before (Tried m next ∷ []) es)) few) in
     let other : (m == n) ≡ false = is_other m n (below_count before (Tried m next ∷ es) m n (first_follows before (Tried m next) es h).0 few) in
     let none : one_if (m == n) ≡ 0 = ap one_if other in
     (omega (arith, times-cons es (Tried m next) n, rest.0, none), rest.1, rest.2)
 unknown_in before (Recorded m ∷ es) n h few =
     let rest = unknown_in (before ++ Recorded m ∷ []) es n (continues_later before (Recorded m) es h)
-    (subst (λ front. length (contents front) < n) (sym (append_assoc before (Recorded m ∷ []) es)) few) in
+    (subst (λ front. last_number front < n) (sym (append_assoc before (Recorded m ∷ []) es)) few) in
     let other : (m == n) ≡ false = is_other m n (below_count before (Recorded m ∷ es) m n (first_follows before (Recorded m) es h).0 few) in
     (omega (arith, rest.0), λ i. ap (λ b. cond b (Some i) (position_from (λ k. k == n) (i + 1) (recorded es))) other ∙ rest.1 (i + 1), rest.2)
 unknown_in before (Raised next ∷ es) n h few =
     let rest = unknown_in (before ++ Raised next ∷ []) es n (continues_later before (Raised next) es h)
-    (subst (λ front. length (contents front) < n) (sym (append_assoc before (Raised next ∷ []) es)) few) in
+    (subst (λ front. last_number front < n) (sym (append_assoc before (Raised next ∷ []) es)) few) in
     (omega (arith, rest.0), rest.1, rest.2)
 unknown_in before (Cancelled m ∷ es) n h few =
     let rest = unknown_in (before ++ Cancelled m ∷ []) es n (continues_later before (Cancelled m) es h)
-    (subst (λ front. length (contents front) < n) (sym (append_assoc before (Cancelled m ∷ []) es)) few) in
+    (subst (λ front. last_number front < n) (sym (append_assoc before (Cancelled m ∷ []) es)) few) in
     let other : (m == n) ≡ false = is_other m n (below_count before (Cancelled m ∷ es) m n (first_follows before (Cancelled m) es h) few) in
     (omega (arith, rest.0), rest.1, λ i. ap (λ b. cond b (Some i) (position_from (λ k. k == n) (i + 1) (cancelled es))) other ∙ rest.2 (i + 1))
 unknown_in before (Key key ∷ es) n h few =
     let rest = unknown_in (before ++ Key key ∷ []) es n (continues_later before (Key key) es h)
-    (subst (λ front. length (contents front) < n) (sym (append_assoc before (Key key ∷ []) es)) few) in
+    (subst (λ front. last_number front < n) (sym (append_assoc before (Key key ∷ []) es)) few) in
+    (omega (arith, rest.0), rest.1, rest.2)
+unknown_in before (Renewed last ∷ es) n h few =
+    let rest = unknown_in (before ++ Renewed last ∷ []) es n (continues_later before (Renewed last) es h)
+    (subst (λ front. last_number front < n) (sym (append_assoc before (Renewed last ∷ []) es)) few) in
+    (omega (arith, rest.0), rest.1, rest.2)
+unknown_in before (Earlier m key ∷ es) n h few =
+    let rest = unknown_in (before ++ Earlier m key ∷ []) es n (continues_later before (Earlier m key) es h)
+    (subst (λ front. last_number front < n) (sym (append_assoc before (Earlier m key ∷ []) es)) few) in
     (omega (arith, rest.0), rest.1, rest.2)
 
-unknown : (es : List Entry) (n : ℕ) → IsLedger es → length (contents es) < n → IsUnknown es n
+unknown : (es : List Entry) (n : ℕ) → IsLedger es → last_number es < n → IsUnknown es n
 unknown es n ledger few = unknown_in [] es n ledger few
 
 -- ## States
@@ -250,47 +286,54 @@ pub states_after_queued : (es : List Entry) (content : Content) → IsLedger es 
 states_after_queued es content ledger =
     let e : Entry = Queued content in
     let more : List Entry = es ++ e ∷ [] in
-    let new : ℕ = 1 + length (contents es) in
+    let new : ℕ = 1 + earlier es + length (contents es) in
     let none = unknown es new ledger (omega arith) in
     let here : state_of more new ≡ state.Waiting 0 =
     state_waits more new (same_place es e new refl ∙ none.1 0) (same_cancel es e new refl ∙ none.2 0) ∙ ap state.Waiting (same_times es e new refl ∙ none.0) in
-    ap (λ cs. map (λ t. state_of more t.number) (numbered_from 1 cs)) (contents-snoc es e)
-    ∙ numbered-snoc (state_of more) 1 (contents es) content
+    numbers_stay (state_of more) es e refl
+    ∙ ap (λ cs. map (λ t. state_of more t.number) (numbered_from (1 + earlier es) cs)) (contents-snoc es e)
+    ∙ numbered-snoc (state_of more) (1 + earlier es) (contents es) content
     ∙ ap (λ front. front ++ state_of more new ∷ [])
-    (numbered-same (state_of es) (state_of more) 1 (contents es) (λ k le. state_at more es k k (same_place es e k refl) (same_cancel es e k refl) (same_times es e k refl)))
+    (numbered-same (state_of es) (state_of more) (1 + earlier es) (contents es) (λ k le. state_at more es k k (same_place es e k refl) (same_cancel es e k refl) (same_times es e k refl)))
     ∙ ap (λ s. states es ++ s ∷ []) here
 
-pub states_after_raised : (es : List Entry) (next : ℕ) → states (es ++ Raised next ∷ []) ≡ states es
-states_after_raised es next =
-    let e : Entry = Raised next in
+-- An entry that is about no receipt leaves all as they are.
+states_stay : (es : List Entry) (e : Entry) → earlier_of e ≡ 0 → contents (e ∷ []) ≡ [] → recorded (e ∷ []) ≡ [] → cancelled (e ∷ []) ≡ [] → ((n : ℕ) → is_try_of n e ≡ false)
+    → states (es ++ e ∷ []) ≡ states es
+states_stay es e older content records cancel try =
     let more : List Entry = es ++ e ∷ [] in
-    ap (λ cs. map (λ t. state_of more t.number) (numbered_from 1 cs)) (same_contents es e refl)
-    ∙ numbered-same (state_of es) (state_of more) 1 (contents es) (λ k le. state_at more es k k (same_place es e k refl) (same_cancel es e k refl) (same_times es e k refl))
+    numbers_stay (state_of more) es e older
+    ∙ ap (λ cs. map (λ t. state_of more t.number) (numbered_from (1 + earlier es) cs)) (same_contents es e content)
+    ∙ numbered-same (state_of es) (state_of more) (1 + earlier es) (contents es)
+    (λ k le. state_at more es k k (same_place es e k records) (same_cancel es e k cancel) (same_times es e k (try k)))
+
+pub states_after_raised : (es : List Entry) (next : ℕ) → states (es ++ Raised next ∷ []) ≡ states es
+states_after_raised es next = states_stay es (Raised next) refl refl refl refl (λ n. refl)
 
 pub states_after_key : (es : List Entry) (key : List ℕ) → states (es ++ Key key ∷ []) ≡ states es
-states_after_key es key =
-    let e : Entry = Key key in
-    let more : List Entry = es ++ e ∷ [] in
-    ap (λ cs. map (λ t. state_of more t.number) (numbered_from 1 cs)) (same_contents es e refl)
-    ∙ numbered-same (state_of es) (state_of more) 1 (contents es) (λ k le. state_at more es k k (same_place es e k refl) (same_cancel es e k refl) (same_times es e k refl))
+states_after_key es key = states_stay es (Key key) refl refl refl refl (λ n. refl)
 
-pub states_after_tried : (es : List Entry) (d next : ℕ) → place_of es (1 + d) ≡ None → cancel_place_of es (1 + d) ≡ None → d < length (contents es)
-    → states (es ++ Tried (1 + d) next ∷ []) ≡ set (states es) d (state.Waiting (times_tried es (1 + d) + 1))
+pub states_after_earlier : (es : List Entry) (n : ℕ) (key : List ℕ) → states (es ++ Earlier n key ∷ []) ≡ states es
+states_after_earlier es n key = states_stay es (Earlier n key) refl refl refl refl (λ k. refl)
+
+pub states_after_tried : (es : List Entry) (d next : ℕ) → place_of es (1 + earlier es + d) ≡ None → cancel_place_of es (1 + earlier es + d) ≡ None → d < length (contents es)
+    → states (es ++ Tried (1 + earlier es + d) next ∷ []) ≡ set (states es) d (state.Waiting (times_tried es (1 + earlier es + d) + 1))
 states_after_tried es d next waits uncancelled within =
-    let n : ℕ = 1 + d in
+    let n : ℕ = 1 + earlier es + d in
     let e : Entry = Tried n next in
     let more : List Entry = es ++ e ∷ [] in
     let here : state_of more n ≡ state.Waiting (times_tried es n + 1) =
     state_waits more n (same_place es e n refl ∙ waits) (same_cancel es e n refl ∙ uncancelled) ∙ ap state.Waiting (one_more_time es e n (is_self n)) in
-    ap (λ cs. map (λ t. state_of more t.number) (numbered_from 1 cs)) (same_contents es e refl)
-    ∙ numbered-set (state_of es) (state_of more) n 1 d (contents es)
+    numbers_stay (state_of more) es e refl
+    ∙ ap (λ cs. map (λ t. state_of more t.number) (numbered_from (1 + earlier es) cs)) (same_contents es e refl)
+    ∙ numbered-set (state_of es) (state_of more) n (1 + earlier es) d (contents es)
     (λ k other. state_at more es k k (same_place es e k refl) (same_cancel es e k refl) (same_times es e k (is_other n k (λ q. other (sym q))))) refl within
     ∙ ap (set (states es) d) here
 
-pub states_after_recorded : (es : List Entry) (d : ℕ) → place_of es (1 + d) ≡ None → d < length (contents es)
-    → states (es ++ Recorded (1 + d) ∷ []) ≡ set (states es) d (state.Recorded (length (recorded es)))
+pub states_after_recorded : (es : List Entry) (d : ℕ) → place_of es (1 + earlier es + d) ≡ None → d < length (contents es)
+    → states (es ++ Recorded (1 + earlier es + d) ∷ []) ≡ set (states es) d (state.Recorded (length (recorded es)))
 states_after_recorded es d waits within =
-    let n : ℕ = 1 + d in
+    let n : ℕ = 1 + earlier es + d in
     let e : Entry = Recorded n in
     let more : List Entry = es ++ e ∷ [] in
     let place : place_of more n ≡ Some (length (recorded es)) =
@@ -298,14 +341,16 @@ states_after_recorded es d waits within =
     let here : state_of more n ≡ state.Recorded (length (recorded es)) = ap (λ p. state_by p (cancel_place_of more n) (times_tried more n)) place in
     let other_place : (k : ℕ) → k ≢ n → place_of more k ≡ place_of es k = λ k other.
     ap (position_from (λ m. m == k) 0) (recorded-snoc es e) ∙ position-miss (λ m. m == k) 0 (recorded es) n (is_other n k (λ q. other (sym q))) in
-    ap (λ cs. map (λ t. state_of more t.number) (numbered_from 1 cs)) (same_contents es e refl)
-    ∙ numbered-set (state_of es) (state_of more) n 1 d (contents es) (λ k other. state_at more es k k (other_place k other) (same_cancel es e k refl) (same_times es e k refl)) refl within
+    numbers_stay (state_of more) es e refl
+    ∙ ap (λ cs. map (λ t. state_of more t.number) (numbered_from (1 + earlier es) cs)) (same_contents es e refl)
+    ∙ numbered-set (state_of es) (state_of more) n (1 + earlier es) d (contents es)
+    (λ k other. state_at more es k k (other_place k other) (same_cancel es e k refl) (same_times es e k refl)) refl within
     ∙ ap (set (states es) d) here
 
-pub states_after_cancelled : (es : List Entry) (d : ℕ) → place_of es (1 + d) ≡ None → cancel_place_of es (1 + d) ≡ None → d < length (contents es)
-    → states (es ++ Cancelled (1 + d) ∷ []) ≡ set (states es) d (state.Cancelled (times_tried es (1 + d)))
+pub states_after_cancelled : (es : List Entry) (d : ℕ) → place_of es (1 + earlier es + d) ≡ None → cancel_place_of es (1 + earlier es + d) ≡ None → d < length (contents es)
+    → states (es ++ Cancelled (1 + earlier es + d) ∷ []) ≡ set (states es) d (state.Cancelled (times_tried es (1 + earlier es + d)))
 states_after_cancelled es d waits uncancelled within =
-    let n : ℕ = 1 + d in
+    let n : ℕ = 1 + earlier es + d in
     let e : Entry = Cancelled n in
     let more : List Entry = es ++ e ∷ [] in
     let place : cancel_place_of more n ≡ Some (length (cancelled es)) =
@@ -315,42 +360,47 @@ states_after_cancelled es d waits uncancelled within =
     ∙ ap state.Cancelled (same_times es e n refl) in
     let other_place : (k : ℕ) → k ≢ n → cancel_place_of more k ≡ cancel_place_of es k = λ k other.
     ap (position_from (λ m. m == k) 0) (cancelled-snoc es e) ∙ position-miss (λ m. m == k) 0 (cancelled es) n (is_other n k (λ q. other (sym q))) in
-    ap (λ cs. map (λ t. state_of more t.number) (numbered_from 1 cs)) (same_contents es e refl)
-    ∙ numbered-set (state_of es) (state_of more) n 1 d (contents es) (λ k other. state_at more es k k (same_place es e k refl) (other_place k other) (same_times es e k refl)) refl within
+    numbers_stay (state_of more) es e refl
+    ∙ ap (λ cs. map (λ t. state_of more t.number) (numbered_from (1 + earlier es) cs)) (same_contents es e refl)
+    ∙ numbered-set (state_of es) (state_of more) n (1 + earlier es) d (contents es)
+    (λ k other. state_at more es k k (same_place es e k refl) (other_place k other) (same_times es e k refl)) refl within
     ∙ ap (set (states es) d) here
 
 pub length-states : (es : List Entry) → length (states es) ≡ length (contents es)
-length-states es = length-numbered (λ t. state_of es t.number) 1 (contents es)
+length-states es = length-numbered (λ t. state_of es t.number) (1 + earlier es) (contents es)
 
-pub states-get : (es : List Entry) (d : ℕ) → d < length (contents es) → slice_get (states es) d ≡ Some (state_of es (1 + d))
-states-get es d within = numbered-get (state_of es) 1 d (contents es) within
+pub last-states : (es : List Entry) → earlier es + length (states es) ≡ last_number es
+last-states es = ap (λ n. earlier es + n) (length-states es)
 
--- A receipt that waits stands at the place before its number.
-waits_within : (es : List Entry) (n : ℕ) → Waits es n → n - 1 < length (contents es)
-waits_within es n w =
-    let taken : n ≤ length (contents es) = subst (λ k. n ≤ k) (length-taken 1 (contents es)) w.taken in
-    omega (arith, taken, w.from_one)
+pub states-get : (es : List Entry) (d : ℕ) → d < length (contents es) → slice_get (states es) d ≡ Some (state_of es (1 + earlier es + d))
+states-get es d within = numbered-get (state_of es) (1 + earlier es) d (contents es) within
 
-one_after : (es : List Entry) (n : ℕ) → Waits es n → 1 + (n - 1) ≡ n
-one_after es n w = omega (arith, w.from_one)
+-- A receipt that waits stands at the place of its number.
+waits_within : (es : List Entry) (n : ℕ) → Waits es n → place_here es n < length (contents es)
+waits_within es n w = omega (arith, w.taken, w.here)
 
-pub tried_states : (es : List Entry) (n next : ℕ) → Waits es n → states (es ++ Tried n next ∷ []) ≡ set (states es) (n - 1) (state.Waiting (times_tried es n + 1))
+one_after : (es : List Entry) (n : ℕ) → earlier es < n → 1 + earlier es + place_here es n ≡ n
+one_after es n here = omega (arith, here)
+
+pub tried_states : (es : List Entry) (n next : ℕ) → Waits es n → states (es ++ Tried n next ∷ []) ≡ set (states es) (place_here es n) (state.Waiting (times_tried es n + 1))
 tried_states es n next w =
-    let e = one_after es n w in
-    subst (λ k. states (es ++ Tried k next ∷ []) ≡ set (states es) (n - 1) (state.Waiting (times_tried es k + 1))) e
-    (states_after_tried es (n - 1) next (subst (λ k. place_of es k ≡ None) (sym e) w.open_still) (subst (λ k. cancel_place_of es k ≡ None) (sym e) w.not_cancelled) (waits_within es n w))
+    let e = one_after es n w.here in
+    subst (λ k. states (es ++ Tried k next ∷ []) ≡ set (states es) (place_here es n) (state.Waiting (times_tried es k + 1))) e
+    (states_after_tried es (place_here es n) next (subst (λ k. place_of es k ≡ None) (sym e) w.open_still) (subst (λ k. cancel_place_of es k ≡ None) (sym e) w.not_cancelled)
+    (waits_within es n w))
 
-pub recorded_states : (es : List Entry) (n : ℕ) → Waits es n → states (es ++ Recorded n ∷ []) ≡ set (states es) (n - 1) (state.Recorded (length (recorded es)))
+pub recorded_states : (es : List Entry) (n : ℕ) → Waits es n → states (es ++ Recorded n ∷ []) ≡ set (states es) (place_here es n) (state.Recorded (length (recorded es)))
 recorded_states es n w =
-    let e = one_after es n w in
-    subst (λ k. states (es ++ Recorded k ∷ []) ≡ set (states es) (n - 1) (state.Recorded (length (recorded es)))) e
-    (states_after_recorded es (n - 1) (subst (λ k. place_of es k ≡ None) (sym e) w.open_still) (waits_within es n w))
+    let e = one_after es n w.here in
+    subst (λ k. states (es ++ Recorded k ∷ []) ≡ set (states es) (place_here es n) (state.Recorded (length (recorded es)))) e
+    (states_after_recorded es (place_here es n) (subst (λ k. place_of es k ≡ None) (sym e) w.open_still) (waits_within es n w))
 
-pub cancelled_states : (es : List Entry) (n : ℕ) → Waits es n → states (es ++ Cancelled n ∷ []) ≡ set (states es) (n - 1) (state.Cancelled (times_tried es n))
+pub cancelled_states : (es : List Entry) (n : ℕ) → Waits es n → states (es ++ Cancelled n ∷ []) ≡ set (states es) (place_here es n) (state.Cancelled (times_tried es n))
 cancelled_states es n w =
-    let e = one_after es n w in
-    subst (λ k. states (es ++ Cancelled k ∷ []) ≡ set (states es) (n - 1) (state.Cancelled (times_tried es k))) e
-    (states_after_cancelled es (n - 1) (subst (λ k. place_of es k ≡ None) (sym e) w.open_still) (subst (λ k. cancel_place_of es k ≡ None) (sym e) w.not_cancelled) (waits_within es n w))
+    let e = one_after es n w.here in
+    subst (λ k. states (es ++ Cancelled k ∷ []) ≡ set (states es) (place_here es n) (state.Cancelled (times_tried es k))) e
+    (states_after_cancelled es (place_here es n) (subst (λ k. place_of es k ≡ None) (sym e) w.open_still) (subst (λ k. cancel_place_of es k ≡ None) (sym e) w.not_cancelled)
+    (waits_within es n w))
 
 pub recorded-count : (es : List Entry) (n : ℕ) → length (recorded (es ++ Recorded n ∷ [])) ≡ length (recorded es) + 1
 recorded-count es n = ap length (recorded-snoc es (Recorded n)) ∙ length-append (recorded es) (n ∷ [])
@@ -359,12 +409,12 @@ pub recorded-same : (es : List Entry) (e : Entry) → recorded (e ∷ []) ≡ []
 recorded-same es e h = ap length (same_recorded es e h)
 
 -- The state of a receipt that waits is how often it was tried.
-pub waiting_state : (es : List Entry) (n : ℕ) → Waits es n → slice_get (states es) (n - 1) ≡ Some (state.Waiting (times_tried es n))
+pub waiting_state : (es : List Entry) (n : ℕ) → Waits es n → slice_get (states es) (place_here es n) ≡ Some (state.Waiting (times_tried es n))
 waiting_state es n w =
-    states-get es (n - 1) (waits_within es n w) ∙ ap (λ k. Some (state_of es k)) (one_after es n w) ∙ ap Some (state_waits es n w.open_still w.not_cancelled)
+    states-get es (place_here es n) (waits_within es n w) ∙ ap (λ k. Some (state_of es k)) (one_after es n w.here) ∙ ap Some (state_waits es n w.open_still w.not_cancelled)
 
-pub within_states : (es : List Entry) (n : ℕ) → Waits es n → n - 1 < length (states es)
-within_states es n w = subst (λ k. n - 1 < k) (sym (length-states es)) (waits_within es n w)
+pub within_states : (es : List Entry) (n : ℕ) → Waits es n → place_here es n < length (states es)
+within_states es n w = subst (λ k. place_here es n < k) (sym (length-states es)) (waits_within es n w)
 
 by_place : (p c : Option ℕ) (t tried : ℕ) → state_by p c t ≡ state.Waiting tried → (p ≡ None) × (c ≡ None) × (t ≡ tried)
 by_place None None t tried h = (refl, refl, cc)
@@ -372,15 +422,16 @@ by_place None (Some place) t tried h = absurd cc
 by_place (Some place) c t tried h = absurd cc
 
 -- A receipt waits where its state says so.
-pub waits_by_state : (es : List Entry) (n tried : ℕ) → 0 < n → slice_get (states es) (n - 1) ≡ Some (state.Waiting tried) → Waits es n × (times_tried es n ≡ tried)
-waits_by_state es n tried from_one h =
-    let e : 1 + (n - 1) ≡ n = omega (arith, from_one) in
-    let within : n - 1 < length (contents es) = subst (λ k. n - 1 < k) (length-states es) (slice_get_within (states es) (n - 1) (state.Waiting tried) h) in
-    let got = states-get es (n - 1) within in
-    let is : state_of es (1 + (n - 1)) ≡ state.Waiting tried = same_Some (state_of es (1 + (n - 1))) (state.Waiting tried) (sym got ∙ h) in
+pub waits_by_state : (es : List Entry) (n tried : ℕ) → earlier es < n → slice_get (states es) (place_here es n) ≡ Some (state.Waiting tried) → Waits es n × (times_tried es n ≡ tried)
+waits_by_state es n tried here h =
+    let e = one_after es n here in
+    let within : place_here es n < length (contents es) =
+    subst (λ k. place_here es n < k) (length-states es) (slice_get_within (states es) (place_here es n) (state.Waiting tried) h) in
+    let got = states-get es (place_here es n) within in
+    let is : state_of es (1 + earlier es + place_here es n) ≡ state.Waiting tried =
+    same_Some (state_of es (1 + earlier es + place_here es n)) (state.Waiting tried) (sym got ∙ h) in
     let parts = by_place (place_of es n) (cancel_place_of es n) (times_tried es n) tried (ap (state_of es) (sym e) ∙ is) in
-    let taken = subst (λ k. n ≤ k) (sym (length-taken 1 (contents es))) (omega (arith, within, from_one)) in
-    (record { from_one = from_one; taken = taken; open_still = parts.0; not_cancelled = parts.1 }, parts.2)
+    (record { here = here; taken = omega (arith, within, here); open_still = parts.0; not_cancelled = parts.1 }, parts.2)
 
 pub few_tries : (es : List Entry) (n : ℕ) → times_tried es n ≤ length es
 few_tries es n = count_by-le-length (is_try_of n) es
@@ -393,9 +444,11 @@ few_records (Recorded n ∷ es) = omega (arith, few_records es)
 few_records (Raised next ∷ es) = omega (arith, few_records es)
 few_records (Cancelled n ∷ es) = omega (arith, few_records es)
 few_records (Key key ∷ es) = omega (arith, few_records es)
+few_records (Renewed last ∷ es) = omega (arith, few_records es)
+few_records (Earlier n key ∷ es) = omega (arith, few_records es)
 
 pub count_states : (es : List Entry) → length (states es) ≡ length (taken es)
-count_states es = length-states es ∙ sym (length-taken 1 (contents es))
+count_states es = length-states es ∙ sym (length-taken (1 + earlier es) (contents es))
 
 pub some_state : (es old : List Entry) (content : Content) → es ≡ old ++ Queued content ∷ [] → 0 < length (states es)
 some_state es old content e =
@@ -451,25 +504,28 @@ ended_by (Some place) c t other = refl
 open_by : (p c : Option ℕ) → p ≡ None → c ≡ None → (is_none p && is_none c) ≡ true
 open_by p c place cancel = ap (λ o. is_none o && is_none c) place ∙ ap (λ o. is_none o) cancel
 
-ended_one : (es : List Entry) (k : ℕ) → k < length (contents es) → ((tried : ℕ) → slice_get (states es) k ≢ Some (state.Waiting tried)) → is_open es (1 + k) ≡ false
-ended_one es k l other = ended_by (place_of es (1 + k)) (cancel_place_of es (1 + k)) (times_tried es (1 + k)) (λ e. other (times_tried es (1 + k)) (states-get es k l ∙ ap Some e))
+pub ended_one : (es : List Entry) (k : ℕ) → k < length (contents es) → ((tried : ℕ) → slice_get (states es) k ≢ Some (state.Waiting tried)) → is_open es (1 + earlier es + k) ≡ false
+ended_one es k l other =
+    let n : ℕ = 1 + earlier es + k in
+    ended_by (place_of es n) (cancel_place_of es n) (times_tried es n) (λ e. other (times_tried es n) (states-get es k l ∙ ap Some e))
 
 -- No receipt waits where no state does.
 pub no_more : (es : List Entry) → ((k : ℕ) (tried : ℕ) → k < length (contents es) → slice_get (states es) k ≢ Some (state.Waiting tried)) → waiting es ≡ []
-no_more es h = none_waits es 1 (contents es) (λ k l. ended_one es k l (λ tried. h k tried l))
+no_more es h = none_waits es (1 + earlier es) (contents es) (λ k l. ended_one es k l (λ tried. h k tried l))
 
 -- The first state that waits is that of the first receipt that waits.
 pub first_of_states : (es : List Entry) (at tried : ℕ) (content : Content) → slice_get (contents es) at ≡ Some content → slice_get (states es) at ≡ Some (state.Waiting tried)
     → ((k : ℕ) (tried : ℕ) → k < at → slice_get (states es) k ≢ Some (state.Waiting tried))
-    → FirstWaits es (at + 1) content tried
+    → FirstWaits es (earlier es + at + 1) content tried
 first_of_states es at tried content got is h =
     let within = slice_get_within (contents es) at content got in
-    let same : at + 1 ≡ 1 + at = omega arith in
-    let so : state_of es (1 + at) ≡ state.Waiting tried = same_Some (state_of es (1 + at)) (state.Waiting tried) (sym (states-get es at within) ∙ is) in
-    let parts = by_place (place_of es (1 + at)) (cancel_place_of es (1 + at)) (times_tried es (1 + at)) tried so in
-    let none : is_open es (1 + at) ≡ true = open_by (place_of es (1 + at)) (cancel_place_of es (1 + at)) parts.0 parts.1 in
+    let n : ℕ = 1 + earlier es + at in
+    let same : earlier es + at + 1 ≡ n = omega arith in
+    let so : state_of es n ≡ state.Waiting tried = same_Some (state_of es n) (state.Waiting tried) (sym (states-get es at within) ∙ is) in
+    let parts = by_place (place_of es n) (cancel_place_of es n) (times_tried es n) tried so in
+    let none : is_open es n ≡ true = open_by (place_of es n) (cancel_place_of es n) parts.0 parts.1 in
     record {
-      first = first_waits es 1 (contents es) at content got (λ k l. ended_one es k (omega (arith, within)) (λ t. h k t l)) none
+      first = first_waits es (1 + earlier es) (contents es) at content got (λ k l. ended_one es k (omega (arith, within)) (λ t. h k t l)) none
           ∙ ap (λ n. Some (let t : Taken = record { number = n; content = content } in t)) (sym same);
       times = ap (times_tried es) same ∙ parts.2;
     }

@@ -1,5 +1,5 @@
 -- What entries that others have added do to what a machine knows, and to what it was to keep.
-use Rattle.std.proofs.Common.{ℕ, zero, suc, true, false, ◌==◌, ◌≡◌, ◌+◌, ◌-◌, ◌<◌, ◌≤◌, ◌⊎◌, inl, inr, cond, Option, Some, None, List, [], ◌∷◌, ◌++◌, length, length-drop, take, drop, get_or, refl, sym, ◌∙◌, ap, subst, append-nil, append_assoc, length-append, arith}
+use Rattle.std.proofs.Common.{ℕ, zero, suc, true, false, ◌==◌, ◌≡◌, ◌+◌, ◌-◌, ◌<◌, ◌≤◌, ◌⊎◌, inl, inr, cond, Option, Some, None, Result, Ok, Err, OnOk, IfErr, List, [], ◌∷◌, ◌++◌, length, length-drop, take, drop, get_or, refl, sym, ◌∙◌, ap, subst, append-nil, append_assoc, length-append, arith}
 use Rattle.std.specs.List.{AllByRecursion, position_from}
 use Rattle.std.proofs.Math.Nat.{le-max_right}
 use Rattle.std.proofs.lemmas.List.{take-append-drop, take_all}
@@ -12,18 +12,18 @@ use Rattle.escpos_till.specs.declared.entry.Entry.TheVariants as entry
 use Rattle.escpos_till.specs.declared.entry.Entry.TheVariants.{Queued, Tried, Recorded, Raised, Cancelled}
 use Rattle.escpos_till.specs.declared.machine.Due.{Due}
 use Rattle.escpos_till.specs.declared.machine.Stage.{Stage}
+use Rattle.escpos_till.specs.declared.machine.Stage.TheVariants as stage
 use Rattle.escpos_till.specs.declared.machine.Then.{Then}
 use Rattle.escpos_till.specs.declared.machine.Then.TheVariants as then
-use Rattle.std.specs.Prelude.{Result, Ok, Err, IfErr, OnOk}
-use Rattle.escpos_till.specs.declared.store.StoreFault.{StoreFault}
 use Rattle.escpos_till.specs.declared.state.ReceiptState.{ReceiptState}
 use Rattle.escpos_till.specs.declared.state.ReceiptState.TheVariants as state
+use Rattle.escpos_till.specs.declared.store.StoreFault.{StoreFault}
 use Rattle.escpos_till.specs.Book.{HasTryRoom, IsBookOf}
 use Rattle.escpos_till.specs.Delivers.{marks_taken, most_entries}
-use Rattle.escpos_till.specs.Entries.{IsLedger, MayFollow, Waits, cancel_place_of, content_of, contents, is_try_of, place_of, record_of, recorded, state_by, state_of, taken, times_tried}
+use Rattle.escpos_till.specs.Entries.{IsLedger, MayFollow, Waits, cancel_place_of, earlier, is_try_of, last_number, place_of, record_of, recorded, state_by, state_of, times_tried}
 use Rattle.escpos_till.specs.Learning.{AreOthers, FollowAll, IsOthers, Revises, StandsIn, WaitsOrCancelled}
 use Rattle.escpos_till.specs.Machine.{Fits, Suits}
-use Rattle.escpos_till.proofs.EntryLemmas.{is_other, ledger-snoc, length-taken, one_longer, state_waits}
+use Rattle.escpos_till.proofs.EntryLemmas.{is_other, last_grows, ledger-snoc, one_longer, state_waits}
 use Rattle.escpos_till.proofs.MachineLemmas.{fits_printed, fits_recorded}
 
 -- ## Each of a list
@@ -78,6 +78,8 @@ others_record (Recorded n ∷ es) (this, more) = absurd this
 others_record (Raised next ∷ es) (this, more) = others_record es more
 others_record (Cancelled n ∷ es) (this, more) = others_record es more
 others_record (entry.Key key ∷ es) (this, more) = others_record es more
+others_record (entry.Renewed last ∷ es) (this, more) = absurd this
+others_record (entry.Earlier n key ∷ es) (this, more) = absurd this
 
 pub others_recorded : (es others : List Entry) → AllByRecursion IsOthers others → recorded (es ++ others) ≡ recorded es
 others_recorded es others all = filter_map-append record_of es others ∙ ap (λ rs. recorded es ++ rs) (others_record others all) ∙ append-nil (recorded es)
@@ -90,17 +92,26 @@ others_try (Recorded m ∷ es) n (this, more) = absurd this
 others_try (Raised next ∷ es) n (this, more) = others_try es n more
 others_try (Cancelled m ∷ es) n (this, more) = others_try es n more
 others_try (entry.Key key ∷ es) n (this, more) = others_try es n more
+others_try (entry.Renewed last ∷ es) n (this, more) = absurd this
+others_try (entry.Earlier m key ∷ es) n (this, more) = absurd this
 
 pub others_tried : (es others : List Entry) (n : ℕ) → AllByRecursion IsOthers others → times_tried (es ++ others) n ≡ times_tried es n
 others_tried es others n all =
     let sums : times_tried (es ++ others) n ≡ times_tried es n + times_tried others n = sum_by-append (λ x. cond (is_try_of n x) 1 0) es others in
     omega (arith, sums, others_try others n all)
 
-pub taken_stay : (es more : List Entry) (n : ℕ) → n ≤ length (taken es) → n ≤ length (taken (es ++ more))
-taken_stay es more n within =
-    let count : length (contents (es ++ more)) ≡ length (contents es) + length (contents more) =
-    ap length (filter_map-append content_of es more) ∙ length-append (contents es) (contents more) in
-    omega (arith, within, count, length-taken 1 (contents es), length-taken 1 (contents (es ++ more)))
+-- A receipt that was taken here is taken here where others have added entries.
+others_older : (es others : List Entry) → AllByRecursion IsOthers others → earlier (es ++ others) ≡ earlier es
+others_older (e ∷ es) others all = refl
+others_older [] [] all = refl
+others_older [] (Queued content ∷ others) all = refl
+others_older [] (Tried n next ∷ others) all = refl
+others_older [] (Recorded n ∷ others) all = refl
+others_older [] (Raised next ∷ others) all = refl
+others_older [] (Cancelled n ∷ others) all = refl
+others_older [] (entry.Key key ∷ others) all = refl
+others_older [] (entry.Renewed last ∷ others) (this, more) = absurd this
+others_older [] (entry.Earlier n key ∷ others) all = refl
 
 stands_by : (es : List Entry) (n : ℕ) (cancel : Option ℕ) → place_of es n ≡ None → cancel_place_of es n ≡ cancel
     → (tried : ℕ) × ((state_of es n ≡ state.Waiting tried) ⊎ (state_of es n ≡ state.Cancelled tried))
@@ -113,7 +124,8 @@ pub stands_after : (b : Book) (es others : List Entry) (n : ℕ) → IsBookOf b 
 stands_after b es others n book all waits = (
   es ++ others,
   book,
-  taken_stay es others n waits.taken,
+  omega (arith, others_older es others all, waits.here),
+  omega (arith, last_grows es others, waits.taken),
   stands_by (es ++ others) n (cancel_place_of (es ++ others) n) (ap (position_from (λ m. m == n) 0) (others_recorded es others all) ∙ waits.open_still) refl,
 )
 
@@ -130,6 +142,8 @@ waits_to_follow es (Cancelled m) (then.Recorded k) n follows suits is = absurd s
 waits_to_follow es (entry.Key key) (then.Recorded k) n follows suits is = absurd suits
 waits_to_follow es e (then.GoOn m tried due) n follows suits is = absurd (let bad : then.GoOn m tried due ≡ then.Recorded n = is in cc)
 waits_to_follow es e (then.SendNext m due) n follows suits is = absurd (let bad : then.SendNext m due ≡ then.Recorded n = is in cc)
+waits_to_follow es (entry.Renewed last) (then.Recorded k) n follows suits is = absurd suits
+waits_to_follow es (entry.Earlier m key) (then.Recorded k) n follows suits is = absurd suits
 waits_to_follow es e (then.Send due) n follows suits is = absurd (let bad : then.Send due ≡ then.Recorded n = is in cc)
 waits_to_follow es e then.Queued n follows suits is = absurd (let bad : then.Queued ≡ then.Recorded n = is in cc)
 waits_to_follow es e (then.Take content) n follows suits is = absurd (let bad : then.Take content ≡ then.Recorded n = is in cc)
@@ -143,6 +157,8 @@ going_to_follow es (Tried m next) n tried due follows suits = absurd suits
 going_to_follow es (Raised next) n tried due follows suits = absurd suits
 going_to_follow es (Cancelled m) n tried due follows suits = absurd suits
 going_to_follow es (entry.Key key) n tried due follows suits = absurd suits
+going_to_follow es (entry.Renewed last) n tried due follows suits = absurd suits
+going_to_follow es (entry.Earlier m key) n tried due follows suits = absurd suits
 
 waits_to_send : (es : List Entry) (e : Entry) (due : Due) → MayFollow es e → Suits (then.Send due) e → Waits es due.number
 waits_to_send es (Tried m next) due follows suits = subst (Waits es) suits follows.0
@@ -151,6 +167,12 @@ waits_to_send es (Recorded m) due follows suits = absurd suits
 waits_to_send es (Raised next) due follows suits = absurd suits
 waits_to_send es (Cancelled m) due follows suits = absurd suits
 waits_to_send es (entry.Key key) due follows suits = absurd suits
+waits_to_send es (entry.Renewed last) due follows suits = absurd suits
+waits_to_send es (entry.Earlier m key) due follows suits = absurd suits
+
+pub on_ok : {X E : Type 0} (r : Result X E) (A : Type 0) → A → OnOk r A
+on_ok (Ok x) A a = a
+on_ok (Err e) A a = tt
 
 -- What a machine delivers stands, once it has learned of the others.
 pub stands_then : (b' : Book) (es others : List Entry) (e : Entry) (next : Then) → IsBookOf b' (es ++ others) → AllByRecursion IsOthers others → MayFollow es e → Suits next e

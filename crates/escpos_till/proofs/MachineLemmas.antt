@@ -26,18 +26,20 @@ use Rattle.escpos_till.specs.Book.{HasRoom, HasTryRoom, IsBookOf, NeedsNoRoom}
 use Rattle.escpos_till.specs.Delivers.{most_entries}
 use Rattle.escpos_till.specs.declared.further.Further.{Further}
 use Rattle.escpos_till.specs.Further.{GoesFurther}
-use Rattle.escpos_till.specs.Entries.{HasKey, MayFollow, Waits, states, times_tried}
+use Rattle.escpos_till.specs.Entries.{HasKey, MayFollow, Waits, earlier, place_here, states, times_tried}
 use Rattle.escpos_till.specs.Machine.{Came, Drops, Fits, IsGoingOn, RefusesSending, Follows, GoesOn, HearsOne, IsKnown, IsNew, Opens, SendsNext, Submits, Suits, Turns, printed, taking, with_pause}
 use Rattle.escpos_till.proofs.BookLemmas.{get-here}
-use Rattle.escpos_till.proofs.EntryLemmas.{next_after_recorded, some_state, tried_states, waits_by_state, within_states}
+use Rattle.escpos_till.proofs.EntryLemmas.{earlier-snoc, next_after_recorded, some_state, tried_states, waits_by_state, within_states}
 
 -- A receipt that waits and is tried waits still, and was tried.
 pub waits_tried : (es : List Entry) (n next : ℕ) → Waits es n → Waits (es ++ entry.Tried n next ∷ []) n × (0 < times_tried (es ++ entry.Tried n next ∷ []) n)
 waits_tried es n next waits =
     let more : List Entry = es ++ entry.Tried n next ∷ [] in
-    let stands : slice_get (states more) (n - 1) ≡ Some (state.Waiting (times_tried es n + 1)) =
-    ap (λ ss. slice_get ss (n - 1)) (tried_states es n next waits) ∙ get-here (states es) (n - 1) (state.Waiting (times_tried es n + 1)) (within_states es n waits) in
-    let so = waits_by_state more n (times_tried es n + 1) waits.from_one stands in
+    let p : ℕ = place_here es n in
+    let older : earlier more ≡ earlier es = earlier-snoc es (entry.Tried n next) refl in
+    let stands : slice_get (states more) p ≡ Some (state.Waiting (times_tried es n + 1)) =
+    ap (λ ss. slice_get ss p) (tried_states es n next waits) ∙ get-here (states es) p (state.Waiting (times_tried es n + 1)) (within_states es n waits) in
+    let so = waits_by_state more n (times_tried es n + 1) (omega (arith, older, waits.here)) (ap (λ k. slice_get (states more) (n - (1 + k))) older ∙ stands) in
     (so.0, omega (arith, so.1))
 
 -- A talk that goes on fits, and so does what ends it.
@@ -114,6 +116,8 @@ fits_sent b es (entry.Recorded n) due first h s follows suits few opens = absurd
 fits_sent b es (entry.Raised next) due first h s follows suits few opens = absurd suits
 fits_sent b es (entry.Cancelled n) due first h s follows suits few opens = absurd suits
 fits_sent b es (entry.Key key) due first h s follows suits few opens = absurd suits
+fits_sent b es (entry.Renewed last) due first h s follows suits few opens = absurd suits
+fits_sent b es (entry.Earlier n key) due first h s follows suits few opens = absurd suits
 
 -- The receipt whose key is kept may be taken next, and there is room for it.
 needs_none : (e : Entry) (content : Content) → Suits (then.Take content) e → NeedsNoRoom e
@@ -123,6 +127,8 @@ needs_none (entry.Queued c) content suits = absurd suits
 needs_none (entry.Tried n next) content suits = absurd suits
 needs_none (entry.Recorded n) content suits = absurd suits
 needs_none (entry.Cancelled n) content suits = absurd suits
+needs_none (entry.Renewed last) content suits = absurd suits
+needs_none (entry.Earlier n key) content suits = absurd suits
 
 fits_taken : (b b' : Book) (es : List Entry) (e : Entry) (content : Content) → Suits (then.Take content) e → length es + 1 < most_entries → HasRoom b → (NeedsNoRoom e → HasRoom b → HasRoom b')
     → Fits b' (es ++ e ∷ []) (stage.Keeping (entry.Queued content) then.Queued)
@@ -158,6 +164,8 @@ fits_going b b' es (entry.Tried m next) n tried due suits few follows room stays
 fits_going b b' es (entry.Raised next) n tried due suits few follows room stays = absurd suits
 fits_going b b' es (entry.Cancelled m) n tried due suits few follows room stays = absurd suits
 fits_going b b' es (entry.Key key) n tried due suits few follows room stays = absurd suits
+fits_going b b' es (entry.Renewed last) n tried due suits few follows room stays = absurd suits
+fits_going b b' es (entry.Earlier m key) n tried due suits few follows room stays = absurd suits
 
 fits_sends_next : (b : Book) (es : List Entry) (n : ℕ) (due : Due) (before h : HostView) (s : Stage) → Waits es due.number → 0 < times_tried es due.number → length es < most_entries
     → SendsNext n due before h s → Fits b es s
@@ -176,6 +184,8 @@ fits_sent_next b es (entry.Recorded m) n due before h s follows suits few sends 
 fits_sent_next b es (entry.Raised next) n due before h s follows suits few sends = absurd suits
 fits_sent_next b es (entry.Cancelled m) n due before h s follows suits few sends = absurd suits
 fits_sent_next b es (entry.Key key) n due before h s follows suits few sends = absurd suits
+fits_sent_next b es (entry.Renewed last) n due before h s follows suits few sends = absurd suits
+fits_sent_next b es (entry.Earlier m key) n due before h s follows suits few sends = absurd suits
 
 pub fits_follows : (b b' : Book) (es : List Entry) (e : Entry) (next : Then) (before : HostView) (first : ℕ) (h : HostView) (s : Stage) → Fits b es (stage.Keeping e next)
     → (NeedsNoRoom e → HasRoom b → HasRoom b') → ((n : ℕ) (tried : Entry) (due : Due) (m : ℕ) → next ≡ then.GoOn n tried due → e ≡ entry.Recorded m → HasTryRoom b → HasTryRoom b')
@@ -201,6 +211,8 @@ state_of_taken es (entry.Recorded n) suits = absurd suits
 state_of_taken es (entry.Raised next) suits = absurd suits
 state_of_taken es (entry.Cancelled n) suits = absurd suits
 state_of_taken es (entry.Key key) suits = absurd suits
+state_of_taken es (entry.Renewed last) suits = absurd suits
+state_of_taken es (entry.Earlier n key) suits = absurd suits
 
 -- What came over a link, as it is told of the machine's parts.
 pub came_so : (talk : Talk) (now : Stage) (b inside : Book) (h host : HostView) (bytes : List ℕ) (consumed : ℕ) (e : HostEvent) (heard : HostView) (left : ℕ) (after : HostView) (s : Stage)
@@ -286,3 +298,14 @@ fits_taking b old es None None content book was new few room = (
   λ c is. absurd (let bad : then.Queued ≡ then.Take c = is in cc),
   tt,
 )
+
+-- What a machine keeps is about no older ledger.
+pub suits_nothing_older : (next : Then) (n : ℕ) (key : List ℕ) → Suits next (entry.Earlier n key) → ⊥
+suits_nothing_older then.Queued n key suits = suits
+suits_nothing_older (then.Take content) n key suits = suits
+suits_nothing_older then.Raised n key suits = suits
+suits_nothing_older (then.Cancelled number tried) n key suits = suits
+suits_nothing_older (then.Send due) n key suits = suits
+suits_nothing_older (then.Recorded number) n key suits = suits
+suits_nothing_older (then.GoOn number tried due) n key suits = suits
+suits_nothing_older (then.SendNext recorded due) n key suits = suits

@@ -29,7 +29,7 @@ ended_unless (state.Waiting tried) other = absurd (other tried refl)
 ended_unless (state.Recorded place) other = tt
 ended_unless (state.Cancelled tried) other = tt
 
-waiting_is_not : (s : ReceiptState) (tried : ℕ) → s ≡ state.Waiting tried → IsEnded s → ⊥
+pub waiting_is_not : (s : ReceiptState) (tried : ℕ) → s ≡ state.Waiting tried → IsEnded s → ⊥
 waiting_is_not s tried e h = subst IsEnded e h
 
 below_or_from : (k from : ℕ) → (k < from) ⊎ (from ≤ k)

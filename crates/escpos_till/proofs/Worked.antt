@@ -1,10 +1,11 @@
 -- The definitions of `specs/Entries.antt`, computed on a small ledger.
-use Rattle.std.proofs.Common.{◌≡◌, List, [], ◌∷◌, Some, refl}
+use Rattle.std.proofs.Common.{◌≡◌, inr, List, [], ◌∷◌, Some, refl, arith}
 use Rattle.escpos_till.specs.declared.entry.Entry.{Entry}
-use Rattle.escpos_till.specs.declared.entry.Entry.TheVariants.{Queued, Tried, Recorded, Raised, Key}
+use Rattle.escpos_till.specs.declared.entry.Entry.TheVariants.{Queued, Tried, Recorded, Raised, Key, Renewed, Earlier}
 use Rattle.escpos_till.specs.declared.state.ReceiptState.TheVariants as state
 use Rattle.escpos_till.specs.Contents.{plain}
-use Rattle.escpos_till.specs.Entries.{HasKey, next_free, taken, recorded, waiting, times_tried, states, last_key}
+use Rattle.escpos_till.specs.Entries.{HasKey, last_number, next_free, taken, recorded, waiting, times_tried, states, last_key}
+use Rattle.escpos_till.proofs.KeyLemmas.{has_here}
 
 -- Three receipts are taken; the first is tried twice and recorded, the third is tried once.
 abbrev worked : List Entry
@@ -38,10 +39,40 @@ keyed =
     Key (65 ∷ []) ∷ Queued (plain (91 ∷ [])) ∷ Key (66 ∷ []) ∷ Key (67 ∷ []) ∷ Queued (plain (93 ∷ [])) ∷ Key (68 ∷ []) ∷ []
 
 first_key : HasKey keyed (65 ∷ []) 1
-first_key = record { before = []; content = plain (91 ∷ []); following = Key (66 ∷ []) ∷ Key (67 ∷ []) ∷ Queued (plain (93 ∷ [])) ∷ Key (68 ∷ []) ∷ []; entries_are = refl; number_is = refl }
+first_key = has_here keyed (65 ∷ []) 1 (record { before = []; content = plain (91 ∷ []); following = Key (66 ∷ []) ∷ Key (67 ∷ []) ∷ Queued (plain (93 ∷ [])) ∷ Key (68 ∷ []) ∷ []; entries_are = refl; number_is = refl })
 
 third_key : HasKey keyed (67 ∷ []) 2
-third_key = record { before = Key (65 ∷ []) ∷ Queued (plain (91 ∷ [])) ∷ Key (66 ∷ []) ∷ []; content = plain (93 ∷ []); following = Key (68 ∷ []) ∷ []; entries_are = refl; number_is = refl }
+third_key = has_here keyed (67 ∷ []) 2 (record { before = Key (65 ∷ []) ∷ Queued (plain (91 ∷ [])) ∷ Key (66 ∷ []) ∷ []; content = plain (93 ∷ []); following = Key (68 ∷ []) ∷ []; entries_are = refl; number_is = refl })
 
 last : last_key keyed ≡ Some (68 ∷ [])
 last = refl
+
+-- A ledger goes on from an older one with 9 receipts, the last of which came with a key. One more is taken, and tried.
+abbrev renewed : List Entry
+renewed = Renewed 9 ∷ Earlier 9 (65 ∷ []) ∷ Raised 30 ∷ Key (66 ∷ []) ∷ Queued (plain (91 ∷ [])) ∷ Tried 10 34 ∷ []
+
+renewed_taken : taken renewed ≡ (record { number = 10; content = plain (91 ∷ []) }) ∷ []
+renewed_taken = refl
+
+renewed_waiting : waiting renewed ≡ (record { number = 10; content = plain (91 ∷ []) }) ∷ []
+renewed_waiting = refl
+
+renewed_last : last_number renewed ≡ 10
+renewed_last = refl
+
+renewed_states : states renewed ≡ state.Waiting 1 ∷ []
+renewed_states = refl
+
+older_key : HasKey renewed (65 ∷ []) 9
+older_key = record {
+  said = inr (record {
+    before = Renewed 9 ∷ [];
+    following = Raised 30 ∷ Key (66 ∷ []) ∷ Queued (plain (91 ∷ [])) ∷ Tried 10 34 ∷ [];
+    entries_are = refl;
+    from_one = omega arith;
+    older = omega arith;
+  });
+}
+
+newer_key : HasKey renewed (66 ∷ []) 10
+newer_key = has_here renewed (66 ∷ []) 10 (record { before = Renewed 9 ∷ Earlier 9 (65 ∷ []) ∷ Raised 30 ∷ []; content = plain (91 ∷ []); following = Tried 10 34 ∷ []; entries_are = refl; number_is = refl })

@@ -6,7 +6,7 @@ use Rattle.escpos_till.specs.declared.entry.Entry.{Entry}
 use Rattle.escpos_till.specs.declared.entry.Entry.TheVariants as entry
 use Rattle.escpos_till.specs.declared.state.ReceiptState.TheVariants as state
 use Rattle.escpos_till.specs.declared.keyed.Keyed.{Keyed}
-use Rattle.escpos_till.specs.Entries.{HasKey, IsLedger, MayFollow, contents, last_key, next_free, recorded, states}
+use Rattle.escpos_till.specs.Entries.{HasKey, IsLedger, MayFollow, contents, earlier, last_key, next_free, recorded, states}
 use Rattle.escpos_till.specs.Keyed.{ListsKey}
 use Rattle.escpos_till.specs.States.{IsFirstWaiting}
 use Rattle.escpos_till.specs.Tries.{tries}
@@ -24,6 +24,7 @@ pub record HasKeys (keys : List Keyed) (entries : List Entry) : Type 0 where
 
 -- It is the book of these entries.
 pub record IsBookOf (b : Book) (entries : List Entry) : Type 0 where
+  pub earlier : b.earlier ≡ earlier entries
   pub states : b.states.items ≡ states entries
   pub contents : HasContents b.contents.items entries
   pub first_waiting : IsFirstWaiting b.states.items b.first_waiting
@@ -40,7 +41,7 @@ Notes old e new = (entries : List Entry) → IsBookOf old entries → IsLedger e
 
 -- The receipt at this place has this number and this content; it waits, and was tried so often.
 pub record StandsAt (b : Book) (place number : ℕ) (content : Content) (tried : ℕ) : Type 0 where
-  pub number_is : number ≡ place + 1
+  pub number_is : number ≡ b.earlier + place + 1
   pub waits : slice_get b.states.items place ≡ Some (state.Waiting tried)
   pub kept : slice_get b.contents.items place ≡ Some content
 

@@ -1,5 +1,5 @@
 -- What a list of entries says, and which lists are ledgers. Each definition looks back at the whole list.
-use Rattle.std.specs.Prelude.{ℕ, ◌≡◌, ◌+◌, ◌<◌, ◌≤◌, Bool, false, ◌==◌, ◌&&◌, is_none, Option, Some, None, List, [], ◌∷◌, ◌++◌, length, map, filter, count_by}
+use Rattle.std.specs.Prelude.{ℕ, ◌≡◌, ◌⊎◌, ◌+◌, ◌-◌, ◌<◌, ◌≤◌, Bool, false, ◌==◌, ◌&&◌, is_none, Option, Some, None, List, [], ◌∷◌, ◌++◌, length, map, filter, count_by}
 use Rattle.std.specs.List.{filter_map, position_from}
 use Rattle.escpos_till.specs.declared.entry.Content.{Content}
 use Rattle.escpos_till.specs.declared.entry.Entry.{Entry}
@@ -17,6 +17,8 @@ next_of (entry.Recorded number) = None
 next_of (entry.Raised next) = Some next
 next_of (entry.Cancelled number) = None
 next_of (entry.Key key) = None
+next_of (entry.Renewed last) = None
+next_of (entry.Earlier number key) = None
 
 -- The last of some numbers; this one if there are none.
 abbrev pub last_or : ℕ → List ℕ → ℕ
@@ -36,6 +38,8 @@ content_of (entry.Recorded number) = None
 content_of (entry.Raised next) = None
 content_of (entry.Cancelled number) = None
 content_of (entry.Key key) = None
+content_of (entry.Renewed last) = None
+content_of (entry.Earlier number key) = None
 
 -- The contents of the receipts that were taken, in the order of taking.
 abbrev pub contents : List Entry → List Content
@@ -50,9 +54,33 @@ abbrev pub numbered_from : ℕ → List Content → List Taken
 numbered_from n [] = []
 numbered_from n (content ∷ more) = record { number = n; content = content } ∷ numbered_from (n + 1) more
 
--- The receipts that were taken, numbered from 1 in the order of taking.
+-- The number of the last receipt that an older ledger has taken, if the entry says that its ledger goes on from one; 0 otherwise.
+abbrev pub earlier_of : Entry → ℕ
+earlier_of (entry.Queued content) = 0
+earlier_of (entry.Tried number next) = 0
+earlier_of (entry.Recorded number) = 0
+earlier_of (entry.Raised next) = 0
+earlier_of (entry.Cancelled number) = 0
+earlier_of (entry.Key key) = 0
+earlier_of (entry.Renewed last) = last
+earlier_of (entry.Earlier number key) = 0
+
+-- A ledger that goes on from an older one says so in its first entry. Receipts with numbers up to this one were taken there, and are over.
+abbrev pub earlier : List Entry → ℕ
+earlier [] = 0
+earlier (e ∷ es) = earlier_of e
+
+-- The receipts that were taken, numbered in the order of taking: from 1, or from the number after the last one of the older ledger.
 abbrev pub taken : List Entry → List Taken
-taken entries = numbered_from 1 (contents entries)
+taken entries = numbered_from (1 + earlier entries) (contents entries)
+
+-- The number of the receipt that was taken last, here or in the older ledger; 0 if none was.
+abbrev pub last_number : List Entry → ℕ
+last_number entries = earlier entries + length (contents entries)
+
+-- The place of the receipt with this number among those that were taken here, counted from 0.
+abbrev pub place_here : List Entry → ℕ → ℕ
+place_here entries number = number - (1 + earlier entries)
 
 abbrev pub record_of : Entry → Option ℕ
 record_of (entry.Queued content) = None
@@ -61,6 +89,8 @@ record_of (entry.Recorded number) = Some number
 record_of (entry.Raised next) = None
 record_of (entry.Cancelled number) = None
 record_of (entry.Key key) = None
+record_of (entry.Renewed last) = None
+record_of (entry.Earlier number key) = None
 
 -- The numbers of the receipts that are recorded, in the order of recording.
 abbrev pub recorded : List Entry → List ℕ
@@ -81,6 +111,8 @@ cancel_of (entry.Recorded number) = None
 cancel_of (entry.Raised next) = None
 cancel_of (entry.Cancelled number) = Some number
 cancel_of (entry.Key key) = None
+cancel_of (entry.Renewed last) = None
+cancel_of (entry.Earlier number key) = None
 
 -- The numbers of the receipts that are cancelled, in the order of cancelling.
 abbrev pub cancelled : List Entry → List ℕ
@@ -105,6 +137,8 @@ is_try_of number (entry.Recorded n) = false
 is_try_of number (entry.Raised next) = false
 is_try_of number (entry.Cancelled n) = false
 is_try_of number (entry.Key key) = false
+is_try_of number (entry.Renewed last) = false
+is_try_of number (entry.Earlier n key) = false
 
 -- How often a receipt was sent, or was about to be.
 abbrev pub times_tried : List Entry → ℕ → ℕ
@@ -125,14 +159,25 @@ states entries = map (λ receipt. state_of entries receipt.number) (taken entrie
 
 -- ## Keys
 
--- The receipt with this number has this key: an entry says the key, and the one directly after it takes the receipt. A key that no receipt
--- follows so is void.
-pub record HasKey (entries : List Entry) (key : List ℕ) (number : ℕ) : Type 0 where
+-- An entry says the key, and the one directly after it takes the receipt with this number. A key that no receipt follows so is void.
+pub record TakenWithKey (entries : List Entry) (key : List ℕ) (number : ℕ) : Type 0 where
   pub before : List Entry
   pub content : Content
   pub following : List Entry
   pub entries_are : entries ≡ before ++ entry.Key key ∷ entry.Queued content ∷ following
-  pub number_is : number ≡ length (taken before) + 1
+  pub number_is : number ≡ last_number before + 1
+
+-- An entry says that the receipt with this number, which an older ledger has taken, came with the key.
+pub record CameWithKey (entries : List Entry) (key : List ℕ) (number : ℕ) : Type 0 where
+  pub before : List Entry
+  pub following : List Entry
+  pub entries_are : entries ≡ before ++ entry.Earlier number key ∷ following
+  pub from_one : 0 < number
+  pub older : number ≤ earlier before
+
+-- The receipt with this number has this key.
+pub record HasKey (entries : List Entry) (key : List ℕ) (number : ℕ) : Type 0 where
+  pub said : TakenWithKey entries key number ⊎ CameWithKey entries key number
 
 abbrev pub key_of : Entry → Option (List ℕ)
 key_of (entry.Queued content) = None
@@ -141,6 +186,8 @@ key_of (entry.Recorded number) = None
 key_of (entry.Raised next) = None
 key_of (entry.Cancelled number) = None
 key_of (entry.Key key) = Some key
+key_of (entry.Renewed last) = None
+key_of (entry.Earlier number key) = None
 
 -- The key that the last of some entries says; this one if there are none.
 abbrev pub last_key_or : Option (List ℕ) → List Entry → Option (List ℕ)
@@ -153,15 +200,16 @@ last_key entries = last_key_or None entries
 
 -- ## Ledgers
 
--- The receipt with this number was taken, and is neither recorded nor cancelled.
+-- The receipt with this number was taken here, and is neither recorded nor cancelled.
 pub record Waits (entries : List Entry) (number : ℕ) : Type 0 where
-  pub from_one : 0 < number
-  pub taken : number ≤ length (taken entries)
+  pub here : earlier entries < number
+  pub taken : number ≤ last_number entries
   pub open_still : place_of entries number ≡ None
   pub not_cancelled : cancel_place_of entries number ≡ None
 
 -- In a ledger the entry may come after these. Only a receipt that waits is tried or cancelled; only one that was tried, and
--- waits, is recorded. The next mark number never falls, and each try raises it. A key is said only while no receipt has it.
+-- waits, is recorded. The next mark number never falls, and each try raises it. A key is said only while no receipt has it, and of a receipt
+-- of an older ledger only one key is said. That a ledger goes on from an older one is its first entry.
 abbrev pub MayFollow : List Entry → Entry → Type 0
 MayFollow before (entry.Queued content) = Unit {0}
 MayFollow before (entry.Tried number next) = Waits before number × (next_free before < next)
@@ -169,6 +217,9 @@ MayFollow before (entry.Recorded number) = Waits before number × (0 < times_tri
 MayFollow before (entry.Raised next) = next_free before ≤ next
 MayFollow before (entry.Cancelled number) = Waits before number
 MayFollow before (entry.Key key) = (number : ℕ) → HasKey before key number → ⊥
+MayFollow before (entry.Renewed last) = before ≡ []
+MayFollow before (entry.Earlier number key) =
+    (0 < number) × (number ≤ earlier before) × ((n : ℕ) → HasKey before key n → ⊥) × ((k : List ℕ) → HasKey before k number → ⊥)
 
 -- The entries are a ledger: each of them may come after those before it.
 abbrev pub IsLedger : List Entry → Type 0

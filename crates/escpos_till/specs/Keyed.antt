@@ -6,3 +6,8 @@ use Rattle.escpos_till.specs.declared.keyed.Keyed.{Keyed}
 abbrev pub ListsKey : List Keyed → List ℕ → ℕ → Type 0
 ListsKey [] key number = ⊥
 ListsKey (k ∷ ks) key number = ((k.key ≡ key) × (k.number ≡ number)) ⊎ ListsKey ks key number
+
+-- A key is among these with this number.
+abbrev pub ListsNumber : List Keyed → ℕ → Type 0
+ListsNumber [] number = ⊥
+ListsNumber (k ∷ ks) number = (k.number ≡ number) ⊎ ListsNumber ks number

@@ -22,7 +22,7 @@ use Rattle.escpos_till.specs.declared.store.StoreFault.{StoreFault}
 use Rattle.escpos_till.specs.declared.store.StoreFault.TheVariants as store
 use Rattle.escpos_till.specs.Book.{IsBookOf}
 use Rattle.escpos_till.specs.Delivers.{marks_taken}
-use Rattle.escpos_till.specs.Entries.{IsLedger, MayFollow, Waits, state_of, taken}
+use Rattle.escpos_till.specs.Entries.{IsLedger, MayFollow, Waits, earlier, last_number, state_of}
 use Rattle.escpos_till.specs.Further.{GoesFurther}
 use Rattle.escpos_till.specs.Machine.{Drops, MachineView, lost, printed}
 
@@ -36,6 +36,8 @@ IsOthers (entry.Recorded number) = ⊥
 IsOthers (entry.Raised next) = Unit {0}
 IsOthers (entry.Cancelled number) = Unit {0}
 IsOthers (entry.Key key) = Unit {0}
+IsOthers (entry.Renewed last) = ⊥
+IsOthers (entry.Earlier number key) = ⊥
 
 -- In a ledger each of these entries may come after those, and after the ones before it.
 abbrev pub FollowAll : List Entry → List Entry → Type 0
@@ -52,7 +54,7 @@ pub record AreOthers (before others : List Entry) : Type 0 where
 -- Of the entries that this is the book of, the receipt waits, or it is cancelled.
 abbrev pub StandsIn : Book → ℕ → Type 0
 StandsIn b number =
-    (entries : List Entry) × IsBookOf b entries × (number ≤ length (taken entries))
+    (entries : List Entry) × IsBookOf b entries × (earlier entries < number) × (number ≤ last_number entries)
     × ((tried : ℕ) × ((state_of entries number ≡ state.Waiting tried) ⊎ (state_of entries number ≡ state.Cancelled tried)))
 
 -- So does the receipt that a machine delivers.

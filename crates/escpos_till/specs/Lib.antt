@@ -2,6 +2,7 @@ pub mod Contents
 pub mod Appending
 pub mod Keys
 pub mod Keyed
+pub mod Renewing
 pub mod Entries
 pub mod Tries
 pub mod Pauses

@@ -39,7 +39,7 @@ use Rattle.escpos_till.specs.Tries.{ClosesTry}
 use Rattle.escpos_till.specs.Contents.{GivesReceipt, IsContentFault}
 use Rattle.escpos_till.specs.Delivers.{Due as IsDue, FirstWaits, fresh, marks_taken, most_entries}
 use Rattle.escpos_till.specs.Further.{GoesFurther}
-use Rattle.escpos_till.specs.Entries.{HasKey, IsLedger, MayFollow, Waits, next_free, state_of, taken, times_tried, waiting}
+use Rattle.escpos_till.specs.Entries.{HasKey, IsLedger, MayFollow, Waits, earlier, last_number, next_free, state_of, times_tried, waiting}
 
 -- ## The model of a machine
 
@@ -259,9 +259,10 @@ RefusesRaise m first (refusal.MarkReused next) = (m.stage ≡ stage.AtRest) × (
 RefusesRaise m first (refusal.MarkTooHigh last) = (m.stage ≡ stage.AtRest) × (m.book.next ≤ first) × (last ≡ last_first) × (last < first)
 RefusesRaise m first why = RefusesAny m why
 
--- Why a receipt isn't cancelled: it was never taken; or it is recorded, or cancelled.
+-- Why a receipt isn't cancelled: it was never taken, or an older ledger has taken it; or it is recorded, or cancelled.
 abbrev pub RefusesCancel : MachineView → ℕ → TillRefusal → Type 0
-RefusesCancel m number (refusal.NotTaken n) = (m.stage ≡ stage.AtRest) × (n ≡ number) × ((entries : List Entry) → IsBookOf m.book entries → length (taken entries) < number)
+RefusesCancel m number (refusal.NotTaken n) = (m.stage ≡ stage.AtRest) × (n ≡ number) × ((entries : List Entry) → IsBookOf m.book entries → last_number entries < number)
+RefusesCancel m number (refusal.Earlier n) = (m.stage ≡ stage.AtRest) × (n ≡ number) × ((entries : List Entry) → IsBookOf m.book entries → number ≤ earlier entries)
 RefusesCancel m number (refusal.Recorded n) =
     (m.stage ≡ stage.AtRest) × (n ≡ number) × ((entries : List Entry) → IsBookOf m.book entries → (place : ℕ) × (state_of entries number ≡ state.Recorded place))
 RefusesCancel m number (refusal.Cancelled n) =
@@ -339,7 +340,7 @@ SendsNext recorded due before h s =
 
 -- What follows once the entry is kept, where this host was there, and this mark number was the next; the book is the new one.
 abbrev pub Follows : Then → HostView → ℕ → Book → HostView → Stage → Type 0
-Follows then.Queued before first b h s = (number : ℕ) × (number ≡ length b.states.items) × (h ≡ before) × (s ≡ stage.Telling (note.Queued number))
+Follows then.Queued before first b h s = (number : ℕ) × (number ≡ b.earlier + length b.states.items) × (h ≡ before) × (s ≡ stage.Telling (note.Queued number))
 Follows (then.Take content) before first b h s = (h ≡ before) × (s ≡ stage.Keeping (entry.Queued content) then.Queued)
 Follows then.Raised before first b h s = (h ≡ before) × (s ≡ stage.Telling note.Raised)
 Follows (then.Cancelled number tried) before first b h s = (h ≡ before) × (s ≡ stage.Telling (note.Cancelled number tried))

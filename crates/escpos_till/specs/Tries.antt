@@ -14,6 +14,8 @@ try_of (entry.Recorded number) = None
 try_of (entry.Raised next) = None
 try_of (entry.Cancelled number) = None
 try_of (entry.Key key) = None
+try_of (entry.Renewed last) = None
+try_of (entry.Earlier number key) = None
 
 -- All tries, in order.
 abbrev pub tries : List Entry → List Try

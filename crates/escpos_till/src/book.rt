@@ -2,7 +2,7 @@
 //!
 //! `specs/Book.antt` says what it is of the entries.
 
-ghost use Rattle.std.specs.Prelude.{◌≡◌, ℕ, ◌+◌, ◌^◌, ◌<◌, ◌≤◌, ◌↔◌, List, [], ◌∷◌, ◌++◌, length, slice_get, Some, IsTrue, OnOk, IfOk, IfSome, IsErrOf, MatchOption};
+ghost use Rattle.std.specs.Prelude.{◌≡◌, ◌⊎◌, ℕ, ◌+◌, ◌-◌, ◌^◌, ◌<◌, ◌≤◌, ◌↔◌, List, [], ◌∷◌, ◌++◌, length, slice_get, Some, IsTrue, OnOk, IfOk, IfSome, IsErrOf, MatchOption};
 ghost use Rattle.escpos_till.specs.declared.entry.Content.{Content};
 ghost use Rattle.escpos_till.specs.declared.entry.Entry.{Entry};
 ghost use Rattle.escpos_till.specs.declared.entry.Entry.TheVariants as entry_kind;
@@ -11,13 +11,13 @@ ghost use Rattle.escpos_till.specs.declared.state.ReceiptState.TheVariants as st
 ghost use Rattle.escpos_till.specs.States.{IsEnded};
 ghost use Rattle.escpos_till.specs.Contents.{content_with};
 ghost use Rattle.escpos_till.specs.Book.{HasRoom, HasTryRoom, IsBookOf, NeedsNoRoom, Notes, StandsAt};
-ghost use Rattle.escpos_till.specs.Entries.{HasKey, IsLedger, MayFollow, Waits, state_of, taken, times_tried, waiting};
+ghost use Rattle.escpos_till.specs.Entries.{HasKey, IsLedger, MayFollow, Waits, earlier, last_number, state_of, times_tried, waiting};
 ghost use Rattle.escpos_till.specs.Delivers.{FirstWaits};
 ghost use Rattle.escpos_till.specs.Learning.{FollowAll, NotesAll};
 
 use crate::entry::{Content, Entry};
 use crate::key::ReceiptKey;
-use crate::keyed::{Keyed, number_with};
+use crate::keyed::{Keyed, has_number, number_with};
 use crate::number::ReceiptNumber;
 use crate::state::{
     ReceiptState, first_besides, first_waiting_from, once_cancelled, one_try_more, tries_in,
@@ -43,6 +43,8 @@ pub(crate) enum NoBook {
 /// What a till knows of its ledger.
 #[derive(Drop)]
 pub struct Book {
+    /// The number of the last receipt that an older ledger has taken; 0 if there is none.
+    pub(crate) earlier: u32,
     /// Where the receipts stand.
     pub(crate) states: Vec<ReceiptState>,
     /// The contents of those that wait; an empty one for each of the others.
@@ -70,6 +72,7 @@ impl Book {
         ensures { IsBookOf result [] }
     {
         Book {
+            earlier: 0,
             states: Vec::new(alloc),
             contents: Vec::new(alloc),
             first_waiting: 0,
@@ -98,19 +101,40 @@ impl Book {
     /// The number of the receipt that was taken last.
     pub(crate) fn last_number(&self) -> ReceiptNumber
         requires { 0 < length self.now.states.items }
-        ensures { result ≡ length self.now.states.items }
+        ensures { result ≡ self.now.earlier + length self.now.states.items }
     {
-        ReceiptNumber::new(self.states.len()).unwrap()
+        ReceiptNumber::new(self.earlier as usize + self.states.len()).unwrap()
     }
 
-    /// Where a receipt stands; `None` if it was never taken.
+    /// Whether an older ledger has taken the receipt with this number.
+    pub(crate) fn is_earlier(&self, number: ReceiptNumber) -> bool
+        ensures from_one { 0 < number }
+        ensures older { IsTrue result → number ≤ self.now.earlier }
+        ensures here { ¬ IsTrue result → self.now.earlier < number }
+        ensures entries { (entries : List Entry) → IsBookOf self.now entries → IsTrue result ↔ number ≤ earlier entries }
+    {
+        number.get() <= self.earlier as usize
+    }
+
+    // The place of a receipt that was taken here.
+    fn place(&self, number: ReceiptNumber) -> usize
+        requires { self.now.earlier < number }
+        ensures { result ≡ number - (1 + self.now.earlier) }
+    {
+        number.get() - (1 + self.earlier as usize)
+    }
+
+    /// Where a receipt stands; `None` if it was never taken, or an older ledger has taken it.
     pub(crate) fn state(&self, number: ReceiptNumber) -> Option<ReceiptState>
         ensures stands { (entries : List Entry) → IsBookOf self.now entries → MatchOption result
-            (length (taken entries) < number) (λ state. state ≡ state_of entries number) }
+            ((number ≤ earlier entries) ⊎ (last_number entries < number)) (λ state. state ≡ state_of entries number) }
         ensures waits { (entries : List Entry) (tried : ℕ) → IsBookOf self.now entries → result ≡ Some (state_kind.Waiting tried)
             → Waits entries number × (times_tried entries number ≡ tried) }
     {
-        let place = number.get() - 1;
+        if self.is_earlier(number) {
+            return None;
+        }
+        let place = self.place(number);
         if place < self.states.len() {
             Some(self.states[place])
         } else {
@@ -118,12 +142,15 @@ impl Book {
         }
     }
 
-    /// How often a receipt was tried, if it waits; `None` if it was never taken, or waits no more.
+    /// How often a receipt was tried, if it waits; `None` if it was never taken here, or waits no more.
     pub(crate) fn tried(&self, number: ReceiptNumber) -> Option<usize>
         ensures { (entries : List Entry) → IsBookOf self.now entries → MatchOption result
             (¬ Waits entries number) (λ tried. Waits entries number × (times_tried entries number ≡ tried)) }
     {
-        let place = number.get() - 1;
+        if self.is_earlier(number) {
+            return None;
+        }
+        let place = self.place(number);
         if place < self.states.len() {
             tries_in(self.states[place])
         } else {
@@ -139,6 +166,34 @@ impl Book {
         number_with(&self.keys, key)
     }
 
+    // Whether no receipt has this key.
+    fn is_new(&self, key: &ReceiptKey) -> bool
+        ensures { (entries : List Entry) → IsBookOf self.now entries → IsTrue result ↔ ((number : ℕ) → HasKey entries key.now number → ⊥) }
+    {
+        match self.number_of(key) {
+            Some(_) => false,
+            None => true,
+        }
+    }
+
+    // Whether an entry may say that this receipt of an older ledger came with this key.
+    fn may_have(&self, number: ReceiptNumber, key: &ReceiptKey) -> bool
+        ensures { (entries : List Entry) → IsBookOf self.now entries → IsTrue result ↔ MayFollow entries (entry_kind.Earlier number key.now) }
+    {
+        may_be_said(
+            self.is_earlier(number),
+            self.is_new(key),
+            self.has_key(number),
+        )
+    }
+
+    // Whether a receipt has this number that has a key.
+    fn has_key(&self, number: ReceiptNumber) -> bool
+        ensures { (entries : List Entry) → IsBookOf self.now entries → IsTrue result ↔ ((key : List ℕ) × HasKey entries key number) }
+    {
+        has_number(&self.keys, number)
+    }
+
     /// Whether an entry may come after those that this is the book of.
     pub(crate) fn may_follow(&self, entry: &Entry) -> bool
         ensures { (entries : List Entry) → IsBookOf self.now entries → IsTrue result ↔ MayFollow entries entry.now }
@@ -149,7 +204,9 @@ impl Book {
             Entry::Recorded { number } => matches!(self.tried(*number), Some(tried) if 0 < tried),
             Entry::Raised { next } => self.next <= *next,
             Entry::Cancelled { number } => self.tried(*number).is_some(),
-            Entry::Key { key } => self.number_of(key).is_none(),
+            Entry::Key { key } => self.is_new(key),
+            Entry::Renewed { .. } => self.count == 0,
+            Entry::Earlier { number, key } => self.may_have(*number, key),
         }
     }
 
@@ -170,7 +227,8 @@ impl Book {
             FirstWaits (entries ++ entry_kind.Recorded number ∷ []) first.number (content_with first.options first.content.now) first.tried
             × Waits (entries ++ entry_kind.Recorded number ∷ []) first.number) }
     {
-        self.waiting_at(first_besides(&self.states, self.first_waiting, number.get() - 1))
+        let place = number.get().saturating_sub(1 + self.earlier as usize);
+        self.waiting_at(first_besides(&self.states, self.first_waiting, place))
     }
 
     // The receipt at this place, which waits, unless the place is past the end.
@@ -187,7 +245,7 @@ impl Book {
         };
         let content = &self.contents[place];
         Some(WaitingReceipt {
-            number: ReceiptNumber::new(place + 1).unwrap(),
+            number: ReceiptNumber::new(self.earlier as usize + place + 1).unwrap(),
             content: content.bytes(),
             options: content.options,
             tried,
@@ -253,6 +311,7 @@ impl Book {
     pub(crate) fn note(&mut self, entry: Entry)
         requires follows { (entries : List Entry) × IsBookOf self.old entries × IsLedger entries × MayFollow entries entry × (length entries < 2 ^ 63) }
         requires room { (content : Content) → entry ≡ entry_kind.Queued content → HasRoom self.old }
+        requires key_room { (number : ℕ) (key : List ℕ) → entry ≡ entry_kind.Earlier number key → HasRoom self.old }
         requires try_room { (number next : ℕ) → entry ≡ entry_kind.Tried number next → HasTryRoom self.old }
         ensures notes { Notes self.old entry self.new }
         ensures room { NeedsNoRoom entry → HasRoom self.old → HasRoom self.new }
@@ -261,7 +320,7 @@ impl Book {
         match entry {
             Entry::Queued { content } => self.note_queued(content),
             Entry::Tried { number, next } => {
-                let place = number.get() - 1;
+                let place = self.place(number);
                 self.states[place] = one_try_more(self.states[place]);
                 self.tries.push_reserved(Try {
                     number,
@@ -280,6 +339,16 @@ impl Book {
             Entry::Cancelled { number } => self.note_cancelled(number),
             Entry::Key { key } => {
                 self.last_key = Some(key);
+                self.count += 1;
+            }
+            Entry::Renewed { last } => {
+                self.earlier = last;
+                self.last_key = None;
+                self.count += 1;
+            }
+            Entry::Earlier { number, key } => {
+                self.keys.push_reserved(Keyed { key, number });
+                self.last_key = None;
                 self.count += 1;
             }
         }
@@ -307,7 +376,7 @@ impl Book {
         ensures notes { Notes self.old (entry_kind.Recorded number) self.new }
         ensures try_room { HasTryRoom self.old → HasTryRoom self.new }
     {
-        let place = number.get() - 1;
+        let place = self.place(number);
         self.states[place] = ReceiptState::Recorded {
             place: self.recorded,
         };
@@ -323,11 +392,18 @@ impl Book {
         requires follows { (entries : List Entry) × IsBookOf self.old entries × IsLedger entries × MayFollow entries (entry_kind.Cancelled number) × (length entries < 2 ^ 63) }
         ensures { Notes self.old (entry_kind.Cancelled number) self.new }
     {
-        let place = number.get() - 1;
+        let place = self.place(number);
         self.states[place] = once_cancelled(self.states[place]);
         self.contents[place] = Content::new(Vec::new(*self.contents.allocator()));
         self.first_waiting = first_waiting_from(&self.states, self.first_waiting);
         self.last_key = None;
         self.count += 1;
     }
+}
+
+// Whether a key may be said of a receipt of an older ledger: it is one of those, the key is new, and the receipt has none.
+fn may_be_said(is_earlier: bool, is_new: bool, is_keyed: bool) -> bool
+    ensures { IsTrue result ↔ (IsTrue is_earlier × IsTrue is_new × ¬ IsTrue is_keyed) }
+{
+    is_earlier && is_new && !is_keyed
 }

@@ -115,17 +115,39 @@ impl Content {
 #[derive(Debug, Drop)]
 pub enum Entry {
     /// A receipt is taken; it has the next receipt number.
-    Queued { content: Content },
+    Queued {
+        content: Content,
+    },
     /// The receipt is about to be sent, with mark numbers below `next`: the first that is free afterwards.
-    Tried { number: ReceiptNumber, next: u32 },
+    Tried {
+        number: ReceiptNumber,
+        next: u32,
+    },
     /// The answer to the receipt's closing mark has come: it is printed.
-    Recorded { number: ReceiptNumber },
+    Recorded {
+        number: ReceiptNumber,
+    },
     /// The next mark number is this one, since those below it were used elsewhere.
-    Raised { next: u32 },
+    Raised {
+        next: u32,
+    },
     /// The receipt is cancelled: it waits no more, and isn't sent again.
-    Cancelled { number: ReceiptNumber },
+    Cancelled {
+        number: ReceiptNumber,
+    },
     /// The receipt that the next entry takes comes with this key. If the next entry takes none, the key is void.
-    Key { key: ReceiptKey },
+    Key {
+        key: ReceiptKey,
+    },
+    /// The ledger goes on from an older one, which has taken the receipts with numbers up to `last`. They are over.
+    Renewed {
+        last: u32,
+    },
+    /// The receipt with this number, which the older ledger has taken, came with this key.
+    Earlier {
+        number: ReceiptNumber,
+        key: ReceiptKey,
+    },
 }
 
 impl Entry {
@@ -146,6 +168,14 @@ impl Entry {
             (Entry::Raised { next }, Entry::Raised { next: other }) => next == other,
             (Entry::Cancelled { number }, Entry::Cancelled { number: other }) => number == other,
             (Entry::Key { key }, Entry::Key { key: other }) => key.is_same(other),
+            (Entry::Renewed { last }, Entry::Renewed { last: other }) => last == other,
+            (
+                Entry::Earlier { number, key },
+                Entry::Earlier {
+                    number: other,
+                    key: other_key,
+                },
+            ) => number == other && key.is_same(other_key),
             _ => false,
         }
     }
@@ -166,6 +196,11 @@ impl Entry {
             Entry::Raised { next } => Ok(Entry::Raised { next: *next }),
             Entry::Cancelled { number } => Ok(Entry::Cancelled { number: *number }),
             Entry::Key { key } => Ok(Entry::Key { key: key.copy() }),
+            Entry::Renewed { last } => Ok(Entry::Renewed { last: *last }),
+            Entry::Earlier { number, key } => Ok(Entry::Earlier {
+                number: *number,
+                key: key.copy(),
+            }),
         }
     }
 }

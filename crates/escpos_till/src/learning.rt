@@ -31,7 +31,10 @@ fn is_others(entry: &Entry) -> bool
     match entry {
         Entry::Queued { .. } | Entry::Raised { .. } | Entry::Cancelled { .. } | Entry::Key { .. } =>
             true,
-        Entry::Tried { .. } | Entry::Recorded { .. } => false,
+        Entry::Tried { .. }
+        | Entry::Recorded { .. }
+        | Entry::Renewed { .. }
+        | Entry::Earlier { .. } => false,
     }
 }
 

@@ -1,9 +1,9 @@
 //! A till with one printer: its ledger, and the machine that says what is to be done for it.
 //!
 //! `entry`, `key`, `state` and `waiting` have what a ledger says, `keyed` which receipt has a key, `laws` the laws of keys, `book` what a
-//! machine knows of it, and `store` where its entries are kept. `machine` is the till itself, over values alone, `talking` what it does
-//! with a printer on a link, `further` how it goes on with the next receipt over the same link, and `learning` what it does with entries that
-//! others have added; `driver` does what it asks for, over the store and the line of `surroundings`.
+//! machine knows of it, `renewing` what a new ledger has of it, and `store` where its entries are kept. `machine` is the till itself, over
+//! values alone, `talking` what it does with a printer on a link, `further` how it goes on with the next receipt over the same link, and
+//! `learning` what it does with entries that others have added; `driver` does what it asks for, over the store and the line of `surroundings`.
 #![tactic(auto)]
 
 mod book;
@@ -20,6 +20,7 @@ mod memory_store;
 mod number;
 mod pause;
 mod receipt_content;
+mod renewing;
 mod state;
 mod store;
 mod surroundings;
@@ -39,6 +40,7 @@ pub use memory_store::{Failure, MemoryStore, copies};
 pub use number::ReceiptNumber;
 pub use pause::{Pause, Paused};
 pub use receipt_content::ReceiptContent;
+pub use renewing::{KEYS_KEPT, NotRenewed, renewed};
 pub use state::ReceiptState;
 pub use store::{Appended, NoStore, Store, StoreFault};
 pub use surroundings::{PrinterLine, Surroundings};

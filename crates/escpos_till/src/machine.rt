@@ -27,7 +27,7 @@
 
 ghost use Rattle.std.specs.Prelude.{◌≡◌, ◌≢◌, ◌↔◌, ◌-◌, ◌++◌, ◌<◌, ◌≤◌, ◌^◌, ℕ, List, length, take, drop, min, option_map, Ok, IfOk, IfErr, MatchOption, OnOk, IsErrOf, IsTrue};
 ghost use Rattle.escpos_till.specs.declared.entry.Entry.{Entry};
-ghost use Rattle.escpos_till.specs.Entries.{IsLedger, states as states_of};
+ghost use Rattle.escpos_till.specs.Entries.{IsLedger, earlier, states as states_of};
 ghost use Rattle.escpos_till.specs.Book.{HasRoom, HasTryRoom, IsBookOf, Notes};
 ghost use Rattle.escpos_till.specs.declared.machine.Due.{Due};
 ghost use Rattle.escpos_host.specs.Machine.{IsSound};
@@ -129,6 +129,8 @@ pub enum TillRefusal {
     },
     /// No receipt with this number was taken.
     NotTaken(ReceiptNumber),
+    /// The receipt with this number was taken in an older ledger, and is over.
+    Earlier(ReceiptNumber),
     /// The receipt with this number is recorded.
     Recorded(ReceiptNumber),
     /// The receipt with this number is cancelled already.
@@ -484,7 +486,7 @@ impl TillMachine {
 
     /// Cancels a receipt that waits: that is to be kept. Then it waits no more.
     ///
-    /// The errors are `Busy`, `Failed`, `Memory`, `NotTaken`, `Recorded` and `Cancelled`.
+    /// The errors are `Busy`, `Failed`, `Memory`, `NotTaken`, `Earlier`, `Recorded` and `Cancelled`.
     pub fn cancel(&mut self, number: ReceiptNumber) -> Result<(), TillRefusal>
         ensures cancels { OnOk result (Cancels self.old number self.new) }
         ensures refused { IfErr result (λ why. RefusesCancel self.old number why × (self.new ≡ self.old)) }
@@ -494,6 +496,7 @@ impl TillMachine {
             Some(ReceiptState::Waiting { tried }) => tried,
             Some(ReceiptState::Recorded { .. }) => return Err(TillRefusal::Recorded(number)),
             Some(ReceiptState::Cancelled { .. }) => return Err(TillRefusal::Cancelled(number)),
+            None if self.book.is_earlier(number) => return Err(TillRefusal::Earlier(number)),
             None => return Err(TillRefusal::NotTaken(number)),
         };
         if self.book.count >= MOST_ENTRIES {
@@ -760,6 +763,14 @@ impl TillMachine {
         ensures { (entries : List Entry) → IsBookOf self.now.book entries → result.now ≡ states_of entries }
     {
         self.book.states.as_slice()
+    }
+
+    /// The number of the last receipt that an older ledger has taken; 0 if there is none. The receipts of this ledger have the numbers after it.
+    pub fn earlier(&self) -> u32
+        ensures book { result ≡ self.now.book.earlier }
+        ensures entries { (entries : List Entry) → IsBookOf self.now.book entries → result ≡ earlier entries }
+    {
+        self.book.earlier
     }
 
     /// The next mark number.

@@ -6,7 +6,7 @@ use Rattle.std.proofs.lemmas.List.Elements.{filter_map-append}
 use Rattle.std.proofs.lemmas.Option.{same_Some}
 use Rattle.escpos_till.specs.declared.entry.Content.{Content}
 use Rattle.escpos_till.specs.declared.entry.Entry.{Entry}
-use Rattle.escpos_till.specs.declared.entry.Entry.TheVariants.{Queued, Tried, Recorded, Raised, Cancelled, Key}
+use Rattle.escpos_till.specs.declared.entry.Entry.TheVariants.{Queued, Tried, Recorded, Raised, Cancelled, Key, Renewed, Earlier}
 use Rattle.escpos_till.specs.Entries.{content_of, contents}
 
 -- A content stands at the place that as many have as stand before its entry.
@@ -19,6 +19,8 @@ at_place (Recorded number ∷ es) (suc i) content is = at_place es i content is
 at_place (Raised next ∷ es) (suc i) content is = at_place es i content is
 at_place (Cancelled number ∷ es) (suc i) content is = at_place es i content is
 at_place (Key key ∷ es) (suc i) content is = at_place es i content is
+at_place (Renewed last ∷ es) (suc i) content is = at_place es i content is
+at_place (Earlier number key ∷ es) (suc i) content is = at_place es i content is
 
 -- One entry more has its own contents.
 pub one_entry_more : (es : List Entry) (i : ℕ) (e : Entry) → i < length es → e ≡ get_or es i e → length (contents (take (i + 1) es)) ≡ length (contents (take i es)) + length (contents (e ∷ []))
@@ -35,6 +37,8 @@ no_content (Recorded number) none = refl
 no_content (Raised next) none = refl
 no_content (Cancelled number) none = refl
 no_content (Key key) none = refl
+no_content (Renewed last) none = refl
+no_content (Earlier number key) none = refl
 
 pub is_queued : (e : Entry) (content : Content) → content_of e ≡ Some content → e ≡ Queued content
 is_queued (Queued other) content is = ap Queued (same_Some other content is)
@@ -43,6 +47,8 @@ is_queued (Recorded number) content is = absurd cc
 is_queued (Raised next) content is = absurd cc
 is_queued (Cancelled number) content is = absurd cc
 is_queued (Key key) content is = absurd cc
+is_queued (Renewed last) content is = absurd cc
+is_queued (Earlier number key) content is = absurd cc
 
 pub one_content : (e : Entry) (content : Content) → content_of e ≡ Some content → length (contents (e ∷ [])) ≡ 1
 one_content e content is = ap (λ (x : Entry). length (contents (x ∷ []))) (is_queued e content is)

@@ -5,5 +5,6 @@ pub mod Telling
 pub mod Rounds
 pub mod Tasks
 pub mod RawTasks
+mod Renewals
 pub mod Contents
 mod RefusalLines

@@ -1,6 +1,7 @@
 -- A link that was taken out of a line is put back.
 use Rattle.std.proofs.Common.{◌≡◌, Option, Some, None, Result, Ok, Err, refl, subst}
-use Rattle.std.specs.Prelude.{Bool, IsTrue, IfErr, IfOk, IfSome, OnOk, is_some}
+use Rattle.std.proofs.Math.Bool.{beq}
+use Rattle.std.specs.Prelude.{Bool, true, false, ◌≢◌, IsTrue, IfErr, IfOk, IfSome, OnOk, is_some}
 use Rattle.escpos_till.specs.Driver.{Deed}
 use Rattle.escpos_till_jobs.specs.LinkLine.{IsPaced, LinkDid, Sink, Source, WithLink}
 use Rattle.escpos_till_jobs.specs.declared.link_line.Link.{Link}
@@ -12,11 +13,17 @@ linked Is (Some x) some is = (x, is, refl)
 
 -- What is done with the link, once it waits as it is to, is done with the line.
 pub with_link : {R W D : Type 0} (from : Source R) (to : Sink W) (paced : D → Link R W → Bool → Link R W → D → Type 0) (old : LinkLine R W D) (d : Deed) (new : LinkLine R W D) (waiting after : Link R W)
-    → ((before : Link R W) × (old.link ≡ Some before) × IsPaced paced old.dialler before waiting new.dialler
+    → ((before : Link R W) × (old.link ≡ Some before) × IsPaced paced old.patient new.patient old.dialler before waiting new.dialler
     × (from.to_come waiting.reader ≡ from.to_come before.reader) × (to.written waiting.writer ≡ to.written before.writer)) → new.link ≡ Some after → LinkDid from to waiting d after
     → WithLink from to paced old d new
 with_link from to paced old d new waiting after (before, was, waits, to_come, written) is done =
     record { before = before; waiting = waiting; after = after; was = was; is = is; waits = waits; to_come = to_come; written = written; done = done }
+
+pub differ : (a b : Bool) → beq a b ≡ false → a ≢ b
+differ true true unlike = λ same. let bad : true ≡ false = unlike in cc
+differ true false unlike = λ same. cc
+differ false true unlike = λ same. cc
+differ false false unlike = λ same. let bad : true ≡ false = unlike in cc
 
 -- A link that was taken out.
 pub taken : {X : Type 0} (A : X → Type 0) (o : Option X) (x : X) → o ≡ Some x → IfSome o A → A x

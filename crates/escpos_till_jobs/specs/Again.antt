@@ -1,5 +1,5 @@
 -- What `queue --again` does: a receipt that was taken is taken once more.
-use Rattle.std.specs.Prelude.{ℕ, ◌≡◌, ◌⊎◌, ◌-◌, ◌<◌, None, Some, List, [], codes, length, slice_get}
+use Rattle.std.specs.Prelude.{ℕ, ◌≡◌, ◌⊎◌, ◌<◌, ◌≤◌, None, Some, List, [], codes, slice_get}
 use Rattle.escpos_jobs.specs.declared.status.Status.TheVariants.{Memory, Refused}
 use Rattle.escpos_jobs.specs.Ending.{JobEnd, PrintsText, Tells, memory_line}
 use Rattle.escpos_jobs.specs.Refusal.{refusal_line}
@@ -12,7 +12,7 @@ use Rattle.escpos_till.specs.declared.surroundings.Surroundings.{Surroundings}
 use Rattle.escpos_till.specs.Contents.{GivesReceipt}
 use Rattle.escpos_till.specs.Delivers.{WhyNone}
 use Rattle.escpos_till.specs.Driver.{Deed, Queue}
-use Rattle.escpos_till.specs.Entries.{contents}
+use Rattle.escpos_till.specs.Entries.{contents, earlier, last_number, place_here}
 use Rattle.escpos_till.specs.Machine.{MachineView, RefusesAny}
 use Rattle.escpos_till.specs.Surroundings.{Did}
 use Rattle.escpos_till_jobs.specs.declared.again.NotAgain.{NotAgain}
@@ -24,16 +24,19 @@ use Rattle.escpos_till_jobs.specs.Outcomes.{BecomesAndTells}
 
 -- The receipt that has this number, of those that were taken, has this content.
 abbrev pub HasContent : List Entry → ℕ → Content → Type 0
-HasContent entries number content = slice_get (contents entries) (number - 1) ≡ Some content
+HasContent entries number content = (earlier entries < number) × (slice_get (contents entries) (place_here entries number) ≡ Some content)
 
--- Why there is nothing to take once more: so many receipts were never taken; or the text of the one with this number gives none.
+-- Why there is nothing to take once more: so many receipts were never taken; an older ledger has taken the one with this number; or the text of it
+-- gives none.
 abbrev pub HasNone : NotAgain → List Entry → ℕ → Type 0
-HasNone why.NotTaken entries number = length (contents entries) < number
+HasNone why.NotTaken entries number = last_number entries < number
+HasNone why.Earlier entries number = number ≤ earlier entries
 HasNone (why.Text error) entries number = (content : Content) × HasContent entries number content × WhyNone error content
 
 -- The line that says so.
 abbrev pub RefusesAgain : NotAgain → ℕ → JobEnd → Type 0
 RefusesAgain why.NotTaken number o = Tells o (number_line (codes "refused NotTaken ") number) Refused
+RefusesAgain why.Earlier number o = Tells o (number_line (codes "refused Earlier ") number) Refused
 RefusesAgain (why.Text (json.Refused fault)) number o = PrintsText o (refusal_line fault) Refused
 RefusesAgain (why.Text json.Memory) number o = PrintsText o memory_line Memory
 

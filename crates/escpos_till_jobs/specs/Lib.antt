@@ -8,5 +8,6 @@ pub mod LinkLine
 pub mod Again
 pub mod Words
 pub mod Raw
+pub mod Renewing
 pub mod Performing
 pub mod SharedStores

@@ -18,7 +18,7 @@ use Rattle.escpos_till.specs.declared.state.ReceiptState.TheVariants as state
 use Rattle.escpos_till.specs.declared.store.NoStore.{NoStore}
 use Rattle.escpos_till.specs.declared.store.NoStore.TheVariants as none
 use Rattle.escpos_till.specs.declared.store.StoreFault.TheVariants as store
-use Rattle.escpos_till.specs.Entries.{next_free, states}
+use Rattle.escpos_till.specs.Entries.{earlier, next_free, states}
 use Rattle.escpos_till.specs.Pauses.{name_of, told_name}
 use Rattle.escpos_till_jobs.specs.declared.outcome.Outcome.{Outcome}
 use Rattle.escpos_till_jobs.specs.declared.outcome.Outcome.TheVariants as outcome
@@ -83,6 +83,7 @@ refusal_text (refusal.MarksUsedUp number) = waiting_line number (codes "MarksUse
 refusal_text (refusal.MarkReused next) = number_line (codes "refused MarkReused ") next
 refusal_text (refusal.MarkTooHigh last) = number_line (codes "refused MarkTooHigh ") last
 refusal_text (refusal.NotTaken number) = number_line (codes "refused NotTaken ") number
+refusal_text (refusal.Earlier number) = number_line (codes "refused Earlier ") number
 refusal_text (refusal.Recorded number) = number_line (codes "refused Recorded ") number
 refusal_text (refusal.Cancelled number) = number_line (codes "refused Cancelled ") number
 
@@ -96,6 +97,7 @@ refusal_status (refusal.MarksUsedUp number) = Refused
 refusal_status (refusal.MarkReused next) = Refused
 refusal_status (refusal.MarkTooHigh last) = Refused
 refusal_status (refusal.NotTaken number) = Refused
+refusal_status (refusal.Earlier number) = Refused
 refusal_status (refusal.Recorded number) = Refused
 refusal_status (refusal.Cancelled number) = Refused
 
@@ -156,4 +158,4 @@ next_line next = codes "next " ++ decimal next ++ LF ∷ []
 
 -- All that a ledger's entries say: where each receipt stands, and the next mark number.
 abbrev pub listing_text : List Entry → List ℕ
-listing_text entries = state_lines 1 (states entries) ++ next_line (next_free entries)
+listing_text entries = state_lines (1 + earlier entries) (states entries) ++ next_line (next_free entries)

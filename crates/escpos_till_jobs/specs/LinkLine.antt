@@ -1,5 +1,5 @@
 -- What is done over a line whose links are each a source of answers and a sink.
-use Rattle.std.specs.Prelude.{ℕ, Bool, ◌≡◌, ◌≤◌, ◌⊎◌, Option, Some, None, List, [], length, take, IsTrue}
+use Rattle.std.specs.Prelude.{ℕ, Bool, false, ◌≡◌, ◌≢◌, ◌≤◌, ◌⊎◌, Option, Some, None, List, [], length, take, IsTrue}
 use Rattle.std.specs.Io.KnownBytes.{Appends, Consumes}
 use Rattle.escpos_host.specs.declared.send.SendFault.{SendFault}
 use Rattle.escpos_host.specs.declared.send.SendFault.TheVariants as fault
@@ -53,9 +53,10 @@ LinkDid from to old (Gives room bytes) new = (new.writer ≡ old.writer) × Cons
 LinkDid from to old (Ends why) new = (new.writer ≡ old.writer) × Consumes (from.to_come old.reader) (from.to_come new.reader) [] × SourceSays from new.reader why
 LinkDid from to old deed new = ⊥
 
--- The dialler made the link wait in another way, or it was left as it was.
-abbrev pub IsPaced : {R W D : Type 0} → (D → Link R W → Bool → Link R W → D → Type 0) → D → Link R W → Link R W → D → Type 0
-IsPaced paced old before after new = ((after ≡ before) × (new ≡ old)) ⊎ ((patient : Bool) × paced old before patient after new)
+-- The link waits for a printer that prints nothing, or for any other, as it did, and was left as it was; or the dialler made it wait as it is to
+-- now.
+abbrev pub IsPaced : {R W D : Type 0} → (D → Link R W → Bool → Link R W → D → Type 0) → Bool → Bool → D → Link R W → Link R W → D → Type 0
+IsPaced paced was is old before after new = ((is ≡ was) × (after ≡ before) × (new ≡ old)) ⊎ ((is ≢ was) × paced old before is after new)
 
 -- It is done with the link that is open, once that waits as it is to; the link stays open.
 pub record WithLink {R W D : Type 0} (from : Source R) (to : Sink W) (paced : D → Link R W → Bool → Link R W → D → Type 0) (old : LinkLine R W D) (deed : Deed) (new : LinkLine R W D) : Type 0 where
@@ -64,7 +65,7 @@ pub record WithLink {R W D : Type 0} (from : Source R) (to : Sink W) (paced : D 
   pub after : Link R W
   pub was : old.link ≡ Some before
   pub is : new.link ≡ Some after
-  pub waits : IsPaced paced old.dialler before waiting new.dialler
+  pub waits : IsPaced paced old.patient new.patient old.dialler before waiting new.dialler
   pub to_come : from.to_come waiting.reader ≡ from.to_come before.reader
   pub written : to.written waiting.writer ≡ to.written before.writer
   pub done : LinkDid from to waiting deed after
@@ -80,10 +81,11 @@ pub record TakenBack {R W D : Type 0} (closed : D → Link R W → D → Type 0)
   pub none : new.link ≡ None
   pub dialler : closed old.dialler link new.dialler
 
--- A link is dialled; one that is open then is of no more use.
+-- A link is dialled, which waits for a printer that prints; one that is open then is of no more use.
 pub record Dialled {R W D : Type 0} (dialled : D → Option (Link R W) → D → Type 0) (old : LinkLine R W D) (link : Option (Link R W)) (new : LinkLine R W D) : Type 0 where
   pub dialler : dialled old.dialler link new.dialler
   pub is : new.link ≡ link
+  pub waits : new.patient ≡ false
 
 -- What each deed does; where there is no link, nothing is put, and nothing comes. A deed of the store or of the owner isn't the line's.
 abbrev pub OverLink : {R W D : Type 0} → Source R → Sink W → (D → Option (Link R W) → D → Type 0) → (D → Link R W → Bool → Link R W → D → Type 0) → (D → Link R W → D → Type 0) → LinkLine R W D → Deed → LinkLine R W D → Type 0

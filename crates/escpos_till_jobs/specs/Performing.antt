@@ -103,17 +103,34 @@ abbrev pub OfList : (List ℕ → Option ℕ → Type 0) → TillTask → Type 0
 OfList Holds (task.List path first) = Holds path first
 OfList Holds t = Unit {0}
 
+abbrev pub OfRenew : (List ℕ → List ℕ → Type 0) → TillTask → Type 0
+OfRenew Holds (task.Renew path new) = Holds path new
+OfRenew Holds t = Unit {0}
+
 -- This holds unless the task is to deliver.
 abbrev pub UnlessDeliver : Type 0 → TillTask → Type 0
 UnlessDeliver Holds (task.Deliver path delivery) = Unit {0}
 UnlessDeliver Holds (task.DeliverWithin path delivery wait) = Unit {0}
 UnlessDeliver Holds t = Holds
 
+-- This holds unless the task is to deliver, or to renew a ledger.
+abbrev pub UnlessShared : Type 0 → TillTask → Type 0
+UnlessShared Holds (task.Deliver path delivery) = Unit {0}
+UnlessShared Holds (task.DeliverWithin path delivery wait) = Unit {0}
+UnlessShared Holds (task.Renew path new) = Unit {0}
+UnlessShared Holds t = Holds
+
 -- This holds if it is.
-abbrev pub IfDeliver : Type 0 → TillTask → Type 0
-IfDeliver Holds (task.Deliver path delivery) = Holds
-IfDeliver Holds (task.DeliverWithin path delivery wait) = Holds
-IfDeliver Holds t = Unit {0}
+abbrev pub IfShared : Type 0 → TillTask → Type 0
+IfShared Holds (task.Deliver path delivery) = Holds
+IfShared Holds (task.DeliverWithin path delivery wait) = Holds
+IfShared Holds (task.Renew path new) = Holds
+IfShared Holds t = Unit {0}
+
+-- This holds unless the task is to renew a ledger.
+abbrev pub UnlessRenew : Type 0 → TillTask → Type 0
+UnlessRenew Holds (task.Renew path new) = Unit {0}
+UnlessRenew Holds t = Holds
 
 -- This holds if the task is to take a receipt that is read.
 abbrev pub OfReading : Type 0 → TillTask → Type 0

@@ -4,7 +4,7 @@ ghost use Rattle.std.specs.Prelude.{◌≡◌, ◌≢◌, ◌≤◌, List, lengt
 ghost use Rattle.escpos_jobs.specs.Ending.{job_end};
 ghost use Rattle.escpos_till.specs.Contents.{GivesReceipt};
 ghost use Rattle.escpos_till.specs.Delivers.{WhyNone};
-ghost use Rattle.escpos_till.specs.Entries.{content_of, contents};
+ghost use Rattle.escpos_till.specs.Entries.{content_of, contents, earlier};
 ghost use Rattle.escpos_till_jobs.specs.Again.{HasContent, HasNone, QueuesAgain, RefusesAgain};
 
 use crate::outcome::{Outcome, tell};
@@ -24,6 +24,8 @@ use std::alloc::Global;
 pub enum NotAgain {
     /// No receipt with this number was taken.
     NotTaken,
+    /// An older ledger has taken the receipt with this number.
+    Earlier,
     /// Its text gives no receipt, or an allocation failed.
     Text(JsonError),
 }
@@ -31,9 +33,9 @@ pub enum NotAgain {
 /// Takes a receipt once more that the ledger of the store has taken, whatever became of that, and prints `queued M`, with the number that it has now.
 /// It has no key then.
 ///
-/// The status and the line are those of `queue_receipt`; or the status is `Refused` with `refused NotTaken N` if no receipt has this number, and with the
-/// line of a refused text if what the ledger has of it gives no receipt. The entries are read from the store: if that fails, the line is `ledger failed`, with
-/// `Device`.
+/// The status and the line are those of `queue_receipt`; or the status is `Refused` with `refused NotTaken N` if no receipt has this number, with
+/// `refused Earlier N` if an older ledger has taken that one, and with the line of a refused text if what the ledger has of it gives no receipt. The
+/// entries are read from the store: if that fails, the line is `ledger failed`, with `Device`.
 pub fn queue_again<S: Store, L: PrinterLine, W: ByteOut>(
     alloc: Global,
     machine: &mut TillMachine,
@@ -63,6 +65,7 @@ fn refuse_again<W: ByteOut>(why: NotAgain, number: ReceiptNumber, output: &mut W
 {
     match why {
         NotAgain::NotTaken => tell(Outcome::Refused(TillRefusal::NotTaken(number)), output),
+        NotAgain::Earlier => tell(Outcome::Refused(TillRefusal::Earlier(number)), output),
         NotAgain::Text(fault) => refuse_text(fault, output),
     }
 }
@@ -76,10 +79,24 @@ fn content_again(
     ensures content { IfOk result (λ content. HasContent entries.now number content × GivesReceipt content) }
     ensures none { IfErr result (λ why. HasNone why entries.now number) }
 {
-    let Some(content) = content_at(entries, number.get() - 1) else {
+    let earlier = earlier_in(entries) as usize;
+    if number.get() <= earlier {
+        return Err(NotAgain::Earlier);
+    }
+    let Some(content) = content_at(entries, number.get() - (1 + earlier)) else {
         return Err(NotAgain::NotTaken);
     };
     read_again(alloc, content)
+}
+
+// The number of the last receipt that an older ledger has taken; 0 if there is none.
+fn earlier_in(entries: &[Entry]) -> u32
+    ensures { result ≡ earlier entries.now }
+{
+    match entries.first() {
+        Some(Entry::Renewed { last }) => *last,
+        _ => 0,
+    }
 }
 
 // Reads a content once more.
@@ -121,6 +138,8 @@ fn content_of(entry: &Entry) -> Option<&Content>
         | Entry::Recorded { .. }
         | Entry::Raised { .. }
         | Entry::Cancelled { .. }
-        | Entry::Key { .. } => None,
+        | Entry::Key { .. }
+        | Entry::Renewed { .. }
+        | Entry::Earlier { .. } => None,
     }
 }

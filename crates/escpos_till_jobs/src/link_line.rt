@@ -2,7 +2,8 @@
 //!
 //! How a link is opened is left to whoever dials: over a network to a printer's address, or in memory.
 
-ghost use Rattle.std.specs.Prelude.{◌≡◌, ◌≤◌, Bool, length, take, Option, None, Some, IfErr, IfOk, IfSome, OnOk, IsTrue};
+ghost use Rattle.std.specs.Prelude.{◌≡◌, ◌≢◌, ◌≤◌, ◌*◌, Bool, length, take, Option, None, Some, IfErr, IfOk, IfSome, MatchOption, OnOk, IsTrue};
+ghost use Rattle.std.specs.Duration.{as_nanos};
 ghost use Rattle.escpos_till.specs.Driver.{Breaks, Ends, Gives, HangsUp, Links, Misses, Puts};
 ghost use Rattle.escpos_till_jobs.specs.declared.link_line.Link.{Link as Opened};
 ghost use Rattle.escpos_till_jobs.specs.LinkLine.{Dials, DialsTheSame, HasNoLink, IsPaced, LinkDid, OverLink, sink, source};
@@ -109,8 +110,9 @@ impl<R: ByteIn, W: ByteOut, D: Dial<R, W>> LinkLine<R, W, D> {
     // Takes the link out, if one is open, and makes it wait so.
     fn take_paced(&mut self, patient: bool) -> Option<Link<R, W>>
         ensures none { result ≡ None → (self.old.link ≡ None) × (self.new ≡ self.old) }
+        ensures patient { IfSome result (λ _. self.new.patient ≡ patient) }
         ensures some { IfSome result (λ link. (self.new.link ≡ None) × ((before : Opened R W) × (self.old.link ≡ Some before)
-            × IsPaced D.paced self.old.dialler before link self.new.dialler
+            × IsPaced D.paced self.old.patient self.new.patient self.old.dialler before link self.new.dialler
             × (R.to_come link.reader ≡ R.to_come before.reader) × (W.written link.writer ≡ W.written before.writer))) }
     {
         let link = self.link.take()?;
@@ -180,7 +182,11 @@ pub struct Waits {
 
 impl Waits {
     // No wait lasts longer, for a printer that prints nothing for now or for any other.
-    fn limit(self, patient: bool) -> Option<Duration> {
+    fn limit(self, patient: bool) -> Option<Duration>
+        ensures patient { IsTrue patient → IfSome result (λ limit. as_nanos limit ≡ self.patience * 1000000000) }
+        ensures limited { IsTrue patient → result ≢ None }
+        ensures wait { ¬ IsTrue patient → MatchOption result (self.wait ≡ None) (λ limit. IfSome self.wait (λ seconds. as_nanos limit ≡ seconds * 1000000000)) }
+    {
         let seconds = if patient {
             Some(self.patience)
         } else {

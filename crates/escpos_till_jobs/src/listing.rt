@@ -68,18 +68,28 @@ fn list_states<W: ByteOut>(machine: &TillMachine, output: &mut W) -> Status
     ensures not_hidden { result ≢ Status.Device → ¬ IsTrue (W.failed output.old) → ¬ IsTrue (W.failed output.new) }
     ensures never_usage { result ≢ Status.Usage }
 {
-    print_states(machine.states(), machine.next_mark(), output)
+    print_states(
+        machine.earlier(),
+        machine.states(),
+        machine.next_mark(),
+        output,
+    )
 }
 
-// Prints a line for each receipt, and the next mark number.
-fn print_states<W: ByteOut>(states: &[ReceiptState], next: u32, output: &mut W) -> Status
+// Prints a line for each receipt, where an older ledger has taken so many, and the next mark number.
+fn print_states<W: ByteOut>(
+    earlier: u32,
+    states: &[ReceiptState],
+    next: u32,
+    output: &mut W,
+) -> Status
     ensures tells { Tells (job_end (W.written output.old) (W.written output.new) (W.failed output.new) result)
-        (state_lines 1 states.now ++ next_line next) Status.Good }
+        (state_lines (1 + earlier) states.now ++ next_line next) Status.Good }
     ensures not_hidden { result ≢ Status.Device → ¬ IsTrue (W.failed output.old) → ¬ IsTrue (W.failed output.new) }
     ensures never_usage { result ≢ Status.Usage }
 {
     let mut gather = Gather::new();
-    if put_states(&mut gather, states, output).is_err() {
+    if put_states(&mut gather, earlier, states, output).is_err() {
         return Status::Device;
     }
     if put_next(&mut gather, next, output).is_err() {
@@ -105,18 +115,19 @@ fn put_next<W: ByteOut>(gather: &mut Gather, next: u32, output: &mut W) -> Resul
     Ok(())
 }
 
-// Gives a line for each receipt, in order.
+// Gives a line for each receipt, in order, where an older ledger has taken so many.
 fn put_states<W: ByteOut>(
     gather: &mut Gather,
+    earlier: u32,
     states: &[ReceiptState],
     output: &mut W,
 ) -> Result<(), Device>
     ensures { IsGiven result (passage (W.written output.old) (W.written output.new) (W.failed output.old) (W.failed output.new))
-        gather.old gather.new (state_lines 1 states.now) }
+        gather.old gather.new (state_lines (1 + earlier) states.now) }
 {
     // Proof only: appended bytes count as given.
     laws::given_in_place();
-    let mut place = 0;
+    let mut place = earlier as usize;
     for state in states {
         put_state(gather, place, state, output)?;
         place += 1;
@@ -124,7 +135,7 @@ fn put_states<W: ByteOut>(
     Ok(())
 }
 
-// Gives the line of the receipt at this place, counted from 0.
+// Gives the line of the receipt that so many were taken before.
 fn put_state<W: ByteOut>(
     gather: &mut Gather,
     place: usize,

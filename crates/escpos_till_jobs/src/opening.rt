@@ -37,7 +37,7 @@ pub fn open_machine<S: Store>(alloc: Global, store: &mut S) -> Result<TillMachin
 }
 
 // The same reason, as it is told.
-fn no_store(fault: StoreFault) -> NoStore
+pub(crate) fn no_store(fault: StoreFault) -> NoStore
     ensures failed { fault ≡ StoreFault.Failed → result ≡ NoStore.Failed }
     ensures memory { fault ≡ StoreFault.Memory → result ≡ NoStore.Memory }
 {

@@ -80,6 +80,9 @@ fn tell_refusal<W: ByteOut>(why: TillRefusal, output: &mut W) -> Status
         TillRefusal::NotTaken(number) => {
             tell_number(b"refused NotTaken ", number.get(), Status::Refused, output)
         }
+        TillRefusal::Earlier(number) => {
+            tell_number(b"refused Earlier ", number.get(), Status::Refused, output)
+        }
         TillRefusal::Recorded(number) => {
             tell_number(b"refused Recorded ", number.get(), Status::Refused, output)
         }
@@ -200,8 +203,13 @@ pub(crate) fn tell_text<W: ByteOut>(text: &[u8], output: &mut W, status: Status)
     }
 }
 
-// Prints a text and a number, as one line.
-fn tell_number<W: ByteOut>(text: &[u8], number: usize, status: Status, output: &mut W) -> Status
+/// Prints a text and a number, as one line.
+pub(crate) fn tell_number<W: ByteOut>(
+    text: &[u8],
+    number: usize,
+    status: Status,
+    output: &mut W,
+) -> Status
     requires { length text.now ≤ 20 }
     ensures tells { Tells (job_end (W.written output.old) (W.written output.new) (W.failed output.new) result) (number_line text.now number) status }
     ensures not_hidden { result ≢ Status.Device → ¬ IsTrue (W.failed output.old) → ¬ IsTrue (W.failed output.new) }

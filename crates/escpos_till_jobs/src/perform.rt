@@ -6,8 +6,9 @@ ghost use Rattle.std.specs.Prelude.{◌≡◌, ◌≢◌, ◌+◌, ◌≤◌, �
 ghost use Rattle.escpos_jobs.specs.declared.input.TheConstants.{INPUT_LIMIT};
 ghost use Rattle.escpos_till.specs.declared.store.NoStore.{NoStore as WhyNone};
 ghost use Rattle.escpos_till_jobs.specs.Outputs.{output_of};
-ghost use Rattle.escpos_till_jobs.specs.Performing.{CancelsAt, DeliversAt, IfDeliver, ListsAt, OfCancel, OfDeliver, OfDeliverWithin, OfList, OfQueue, OfQueueAgain, OfQueueRaw, OfReading, QueuesAgainAt, QueuesAt, UnlessDeliver, UnlessReading, way};
+ghost use Rattle.escpos_till_jobs.specs.Performing.{CancelsAt, DeliversAt, IfShared, ListsAt, OfCancel, OfDeliver, OfDeliverWithin, OfList, OfQueue, OfQueueAgain, OfQueueRaw, OfReading, OfRenew, QueuesAgainAt, QueuesAt, UnlessDeliver, UnlessReading, UnlessRenew, UnlessShared, way};
 ghost use Rattle.escpos_till_jobs.specs.Raw.{QueuesRawAt};
+ghost use Rattle.escpos_till_jobs.specs.Renewing.{RenewsAt, new_place};
 ghost use Rattle.escpos_till_jobs.specs.Words.{InLedger, place};
 
 use crate::deliver::Delivery;
@@ -16,6 +17,7 @@ use crate::link_line::{NoLine, Waits};
 use crate::opening::refuse_store;
 use crate::queue::read_content;
 use crate::raw::{read_raw, refuse_raw};
+use crate::renew::{NewLedgers, renew_ledger};
 use crate::task::{LedgerPath, TillTask};
 use crate::word::{Word, do_with};
 use escpos_io::{ByteIn, ByteOut};
@@ -44,13 +46,15 @@ pub trait Ledgers<S> {
 /// Does what a till asks of a ledger, and returns how it went.
 ///
 /// A receipt is read before the ledger is opened, so that one that is refused leaves no new ledger; at most 16,777,217 bytes are pulled. For
-/// any other task the input isn't read, and only a delivery has a line made. `DeliverWithin` has one made with its wait. A delivery opens its ledger
-/// by `shared`, whose stores may let go of it meanwhile; any other task opens it by `ledgers`, and has it to itself.
+/// any other task the input isn't read, and only a delivery has a line made. `DeliverWithin` has one made with its wait. A delivery opens its
+/// ledger by `shared`, whose stores may let go of it meanwhile, and so does a renewal, which writes the new ledger by `news`; any other task
+/// opens it by `ledgers`, and has it to itself.
 pub fn perform_till<
-    S: Store,
+    S: Store + Drop,
     F: Ledgers<S>,
     T: Store,
     G: Ledgers<T>,
+    N: NewLedgers<S>,
     L: PrinterLine + Drop,
     P: Lines<L>,
     R: ByteIn,
@@ -59,6 +63,7 @@ pub fn perform_till<
     alloc: Global,
     ledgers: &mut F,
     shared: &mut G,
+    news: &mut N,
     lines: &mut P,
     task: TillTask<'_>,
     input: &mut R,
@@ -78,8 +83,12 @@ pub fn perform_till<
         ledgers.old (output_of (W.written output.old) (W.failed output.old)) ledgers.new (output_of (W.written output.new) (W.failed output.new)) result) task.entry }
     ensures list { OfList (ListsAt (place F.opened F.closed S.faithful S.holds S.leaves S.says) ⟦<NoLine as PrinterLine>⟧.did
         ledgers.old (output_of (W.written output.old) (W.failed output.old)) ledgers.new (output_of (W.written output.new) (W.failed output.new)) result) task.entry }
-    ensures no_line { UnlessDeliver ((lines.new ≡ lines.old) × (shared.new ≡ shared.old)) task.entry }
-    ensures no_other { IfDeliver (ledgers.new ≡ ledgers.old) task.entry }
+    ensures renew { OfRenew (RenewsAt (place G.opened G.closed T.faithful T.holds T.leaves T.says) (new_place N.begun N.finished S.faithful S.holds)
+        shared.old news.old (output_of (W.written output.old) (W.failed output.old)) shared.new news.new (output_of (W.written output.new) (W.failed output.new)) result) task.entry }
+    ensures no_line { UnlessDeliver (lines.new ≡ lines.old) task.entry }
+    ensures not_shared { UnlessShared (shared.new ≡ shared.old) task.entry }
+    ensures no_other { IfShared (ledgers.new ≡ ledgers.old) task.entry }
+    ensures no_new { UnlessRenew (news.new ≡ news.old) task.entry }
     ensures unread { UnlessReading (input.new ≡ input.old) task.entry }
     ensures input_not_hidden { OfReading (IsTrue (R.failed input.new) → result ≡ Status.Device) task.entry }
     ensures pulls { OfReading (R.pull_count input.new ≤ R.pull_count input.old + INPUT_LIMIT + 1) task.entry }
@@ -140,6 +149,9 @@ pub fn perform_till<
                 output,
             )
             .1
+        }
+        TillTask::Renew { ledger, new } => {
+            renew_ledger(alloc, shared, news, &ledger, &new, output)
         }
         TillTask::List { ledger, first } => {
             do_at(alloc, ledgers, &ledger, NoLine, Word::List(first), output).1

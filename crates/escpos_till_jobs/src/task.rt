@@ -76,6 +76,11 @@ pub enum TillTask<'a> {
         ledger: LedgerPath<'a>,
         number: ReceiptNumber,
     },
+    /// Renew this ledger: a new one, at this other path, goes on from it.
+    Renew {
+        ledger: LedgerPath<'a>,
+        new: LedgerPath<'a>,
+    },
     /// List where the receipts of this ledger stand, once its next mark number was raised to `first`, if that is given.
     List {
         ledger: LedgerPath<'a>,

@@ -4,7 +4,7 @@
 //! is proved a second time for them. A test that looks into a value stands in the crate of that value.
 //!
 //! `words` is of what a till's words print, over a store in memory, `again` of a receipt that is taken once more, `raw` of streams of bytes,
-//! and `failing` of those over a store that fails; `tasks` is of what is asked for, done with a ledger at a path; `shared` is of a delivery
+//! and `failing` of those over a store that fails; `tasks` is of what is asked for, done with a ledger at a path; `renewing` is of a new ledger that goes on from an older one; `shared` is of a delivery
 //! meanwhile others add entries; `memory` lets each allocation of a call fail in turn. What they share is in `support`.
 #![tactic(auto)]
 
@@ -16,6 +16,8 @@ mod failing;
 mod memory;
 #[cfg(test)]
 mod raw;
+#[cfg(test)]
+mod renewing;
 #[cfg(test)]
 mod shared;
 #[cfg(test)]

@@ -7,9 +7,8 @@ use Rattle.std.proofs.lemmas.List.Sums.{sum_by-append}
 use Rattle.std.proofs.lemmas.Option.{same_Some}
 use Rattle.escpos_till.specs.declared.entry.Content.{Content}
 use Rattle.escpos_till.specs.declared.entry.Entry.{Entry}
-use Rattle.escpos_till.specs.declared.entry.Entry.TheVariants.{Queued, Tried, Recorded, Raised, Cancelled, Key}
-use Rattle.escpos_till.specs.Entries.{IsLedger, MayFollow, Taken, Waits, cancel_of, cancel_place_of, cancelled, contents, is_open, is_try_of, numbered_from, place_in, place_of, record_of, recorded, taken, times_tried, waiting}
-use Rattle.escpos_till.proofs.EntryLemmas.{length-taken}
+use Rattle.escpos_till.specs.declared.entry.Entry.TheVariants.{Queued, Tried, Recorded, Raised, Cancelled, Key, Renewed, Earlier}
+use Rattle.escpos_till.specs.Entries.{IsLedger, MayFollow, Taken, Waits, cancel_of, cancel_place_of, cancelled, contents, earlier, is_open, is_try_of, numbered_from, place_in, place_of, record_of, recorded, taken, times_tried, waiting}
 use Rattle.escpos_till_model.specs.Receipts.{Among, EachIsKept, IsAbout, IsEndOf, IsTaken}
 use Rattle.escpos_till_model.proofs.EntryFacts.{among_either, among_filtered, among_first, among_later, cancelled_append, filter_keeps, is_taken_grows, recorded_append}
 
@@ -93,6 +92,8 @@ records_it (Recorded n) number is = ap Recorded (same_Some n number is)
 records_it (Raised next) number is = absurd (let bad : None ≡ Some number = is in cc)
 records_it (Cancelled n) number is = absurd (let bad : None ≡ Some number = is in cc)
 records_it (Key key) number is = absurd (let bad : None ≡ Some number = is in cc)
+records_it (Renewed last) number is = absurd (let bad : None ≡ Some number = is in cc)
+records_it (Earlier k key) number is = absurd (let bad : None ≡ Some number = is in cc)
 
 cancels_it : (e : Entry) (number : ℕ) → cancel_of e ≡ Some number → e ≡ Cancelled number
 cancels_it (Queued content) number is = absurd (let bad : None ≡ Some number = is in cc)
@@ -101,6 +102,8 @@ cancels_it (Recorded n) number is = absurd (let bad : None ≡ Some number = is 
 cancels_it (Raised next) number is = absurd (let bad : None ≡ Some number = is in cc)
 cancels_it (Cancelled n) number is = ap Cancelled (same_Some n number is)
 cancels_it (Key key) number is = absurd (let bad : None ≡ Some number = is in cc)
+cancels_it (Renewed last) number is = absurd (let bad : None ≡ Some number = is in cc)
+cancels_it (Earlier k key) number is = absurd (let bad : None ≡ Some number = is in cc)
 
 -- What is recorded waited before, and so did what is cancelled.
 waited : (entries pre post : List Entry) (e : Entry) (number : ℕ) → IsLedger entries → entries ≡ pre ++ e ∷ post → record_of e ≡ Some number → Waits pre number
@@ -120,6 +123,8 @@ waits_at before (Recorded n) number follows about = subst (Waits before) about f
 waits_at before (Raised next) number follows about = absurd about
 waits_at before (Cancelled n) number follows about = subst (Waits before) about follows
 waits_at before (Key key) number follows about = absurd about
+waits_at before (Renewed last) number follows about = absurd about
+waits_at before (Earlier k key) number follows about = absurd about
 
 -- It waits no more after its end.
 pub ended_there : (before more : List Entry) (end : Entry) (number : ℕ) → IsEndOf number end → ¬ Waits (before ++ end ∷ more) number
@@ -130,6 +135,8 @@ ended_there before more (Recorded n) number ends waits =
     (subst (λ k. Among k (recorded (before ++ Recorded n ∷ more))) ends (recorded before, recorded more, recorded_append before (Recorded n ∷ more)))
 ended_there before more (Raised next) number ends waits = absurd ends
 ended_there before more (Key key) number ends waits = absurd ends
+ended_there before more (Renewed last) number ends waits = absurd ends
+ended_there before more (Earlier k key) number ends waits = absurd ends
 ended_there before more (Cancelled n) number ends waits =
     no_place (cancelled (before ++ Cancelled n ∷ more)) number waits.not_cancelled
     (subst (λ k. Among k (cancelled (before ++ Cancelled n ∷ more))) ends (cancelled before, cancelled more, cancelled_append before (Cancelled n ∷ more)))
@@ -166,6 +173,8 @@ times_stay entries (Recorded n) number follows among = same_times entries (Recor
 times_stay entries (Raised next) number follows among = same_times entries (Raised next) number refl
 times_stay entries (Cancelled n) number follows among = same_times entries (Cancelled n) number refl
 times_stay entries (Key key) number follows among = same_times entries (Key key) number refl
+times_stay entries (Renewed last) number follows among = same_times entries (Renewed last) number refl
+times_stay entries (Earlier n key) number follows among = same_times entries (Earlier n key) number refl
 
 -- ## Receipts with their numbers
 
@@ -183,9 +192,9 @@ numbered_has m (suc k) (c ∷ cs) within =
 
 waits_taken : (entries : List Entry) (number : ℕ) → Waits entries number → (content : Content) × IsTaken entries number content
 waits_taken entries number waits =
-    let count = length-taken 1 (contents entries) in
-    let found = numbered_has 1 (number - 1) (contents entries) (omega (arith, count, waits.from_one, waits.taken)) in
-    let same : 1 + (number - 1) ≡ number = omega (arith, waits.from_one) in
+    let first : ℕ = 1 + earlier entries in
+    let found = numbered_has first (number - first) (contents entries) (omega (arith, waits.here, waits.taken)) in
+    let same : first + (number - first) ≡ number = omega (arith, waits.here) in
     (found.0, subst (λ n. Among (let r : Taken = record { number = n; content = found.0 } in r) (taken entries)) same found.1)
 
 -- ## The law

@@ -219,6 +219,8 @@ cancels_in number (entry.Key key ∷ others) (is, each) among =
     (entry.Key key ∷ before, rest, (tt, all), ap (λ v. entry.Key key ∷ v) split)
 cancels_in number (entry.Tried n next ∷ others) (is, each) among = absurd is
 cancels_in number (entry.Recorded n ∷ others) (is, each) among = absurd is
+cancels_in number (entry.Renewed last ∷ others) (is, each) among = absurd is
+cancels_in number (entry.Earlier n key ∷ others) (is, each) among = absurd is
 
 -- So the first entry that is kept says that the receipt is recorded.
 kept_first : (number : ℕ) (kept : List Entry) (now mid new : World) (es : List Happening) → IsRecording number kept now → Happens now event.Keep mid → Runs mid es new

@@ -40,7 +40,7 @@ use Rattle.escpos_till.specs.Book.{IsBookOf}
 use Rattle.escpos_till.specs.Entries.{MayFollow, next_free}
 use Rattle.escpos_till.specs.Learning.{FailsToLearn, FollowAll, Learned, LearnsAll, Revises}
 use Rattle.escpos_till.specs.Machine.{Came, Cancels, Delivers, Ended, Follows, GoesOn, HearsOne, Kept, MachineView, Queues, Raises, SameEntries, SendsNext, Submits, Turns as Turned, Unsure, after_news, after_note, connected, entry_with, hung_up, lost, not_connected, put, told, with_pause}
-use Rattle.escpos_till.proofs.EntryLemmas.{next_after_cancelled, next_after_key, next_after_queued, next_after_raised, next_after_recorded, next_after_tried}
+use Rattle.escpos_till.proofs.EntryLemmas.{next_after_cancelled, next_after_earlier, next_after_key, next_after_queued, next_after_raised, next_after_recorded, next_after_tried, next_after_renewed}
 use Rattle.escpos_till_model.specs.declared.event.Happening.{Happening}
 use Rattle.escpos_till_model.specs.declared.event.Happening.TheVariants as event
 use Rattle.escpos_till_model.specs.Carried.{AreApart, Carried, Carries, HasOwnMarks, limit_of, link_at, link_by, link_of, links_after, numbers_from, out_of, with_put}
@@ -195,6 +195,8 @@ grows kept (entry.Recorded number) follows = omega (arith, next_after_recorded k
 grows kept (entry.Raised next) follows = omega (arith, next_after_raised kept next, follows)
 grows kept (entry.Cancelled number) follows = omega (arith, next_after_cancelled kept number)
 grows kept (entry.Key key) follows = omega (arith, next_after_key kept key)
+grows kept (entry.Renewed last) follows = omega (arith, next_after_renewed kept last)
+grows kept (entry.Earlier number key) follows = omega (arith, next_after_earlier kept number key)
 
 -- ## What goes on without a byte
 

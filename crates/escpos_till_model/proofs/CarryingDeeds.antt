@@ -119,6 +119,8 @@ first_link kept (entry.Queued c) content suits = absurd suits
 first_link kept (entry.Tried n next) content suits = absurd suits
 first_link kept (entry.Recorded n) content suits = absurd suits
 first_link kept (entry.Cancelled n) content suits = absurd suits
+first_link kept (entry.Renewed last) content suits = absurd suits
+first_link kept (entry.Earlier k key) content suits = absurd suits
 
 same_link : (next : Then) (kept : List Entry) (hand : Option Hand) (h : HostView) (e : Entry) → IsToKeep kept hand h e next → link_for kept e ≡ link_of next e (next_free kept)
 same_link then.Queued kept hand h e (none, content, is) = ap (link_for kept) is

@@ -7,10 +7,10 @@ use Rattle.std.proofs.lemmas.Option.{same_Some}
 use Rattle.escpos_command.specs.declared.command.Command.{Command}
 use Rattle.escpos_till.specs.declared.entry.Content.{Content}
 use Rattle.escpos_till.specs.declared.entry.Entry.{Entry}
-use Rattle.escpos_till.specs.declared.entry.Entry.TheVariants.{Queued, Tried, Recorded, Raised, Cancelled, Key}
-use Rattle.escpos_till.specs.Entries.{MayFollow, Taken, cancel_of, cancelled, content_of, contents, next_free, numbered_from, record_of, recorded, taken}
+use Rattle.escpos_till.specs.declared.entry.Entry.TheVariants.{Queued, Tried, Recorded, Raised, Cancelled, Key, Renewed, Earlier}
+use Rattle.escpos_till.specs.Entries.{MayFollow, Taken, cancel_of, cancelled, content_of, contents, earlier_of, next_free, numbered_from, record_of, recorded, taken}
 use Rattle.escpos_till.specs.Delivers.{FirstWaits}
-use Rattle.escpos_till.proofs.EntryLemmas.{next_after_cancelled, next_after_key, next_after_queued, next_after_raised, next_after_recorded, next_after_tried}
+use Rattle.escpos_till.proofs.EntryLemmas.{next_after_cancelled, next_after_earlier, next_after_key, next_after_queued, next_after_raised, next_after_recorded, next_after_renewed, next_after_tried}
 use Rattle.escpos_till_model.specs.Receipts.{Among, AreReceipts, IsReceiptOf, IsTaken}
 
 -- ## What is among a list
@@ -90,13 +90,15 @@ numbered_append m (c ∷ cs) ds =
     let first : Taken = record { number = m; content = c } in
     ap (λ v. first ∷ v) (numbered_append (m + 1) cs ds ∙ ap (λ k. numbered_from (m + 1) cs ++ numbered_from k ds) same)
 
-pub taken_append : (es more : List Entry) → taken (es ++ more) ≡ taken es ++ numbered_from (1 + length (contents es)) (contents more)
-taken_append es more = ap (numbered_from 1) (filter_map-append content_of es more) ∙ numbered_append 1 (contents es) (contents more)
+taken_append : (e : Entry) (es more : List Entry) → taken (e ∷ es ++ more) ≡ taken (e ∷ es) ++ numbered_from (1 + earlier_of e + length (contents (e ∷ es))) (contents more)
+taken_append e es more =
+    ap (numbered_from (1 + earlier_of e)) (filter_map-append content_of (e ∷ es) more) ∙ numbered_append (1 + earlier_of e) (contents (e ∷ es)) (contents more)
 
 pub is_taken_grows : (es more : List Entry) (number : ℕ) (content : Content) → IsTaken es number content → IsTaken (es ++ more) number content
-is_taken_grows es more number content is =
+is_taken_grows [] more number content is = absurd (among_nothing (let t : Taken = record { number = number; content = content } in t) is)
+is_taken_grows (e ∷ es) more number content is =
     let receipt : Taken = record { number = number; content = content } in
-    subst (λ ts. Among receipt ts) (sym (taken_append es more)) (among_more receipt (taken es) _ is)
+    subst (λ ts. Among receipt ts) (sym (taken_append e es more)) (among_more receipt (taken (e ∷ es)) _ is)
 
 pub receipt_of_grows : (es more : List Entry) (number : ℕ) (commands : List Command) → IsReceiptOf es number commands → IsReceiptOf (es ++ more) number commands
 receipt_of_grows es more number commands is =
@@ -161,3 +163,5 @@ next_grows es (Recorded number) follows = omega (arith, next_after_recorded es n
 next_grows es (Raised next) follows = omega (arith, follows, next_after_raised es next)
 next_grows es (Cancelled number) follows = omega (arith, next_after_cancelled es number)
 next_grows es (Key key) follows = omega (arith, next_after_key es key)
+next_grows es (Renewed last) follows = omega (arith, next_after_renewed es last)
+next_grows es (Earlier number key) follows = omega (arith, next_after_earlier es number key)

@@ -15,9 +15,10 @@ use Rattle.escpos_till.specs.declared.store.StoreFault.{StoreFault}
 use Rattle.escpos_till.specs.Book.{IsBookOf}
 use Rattle.escpos_till.specs.Driver.{Breaks, Confirms, Deed, DidAll, Ends, Gives, HangsUp, Keeps, Learns, Links, Loses, Misses, Pauses, Puts, RanTo, Tells, Turns}
 use Rattle.escpos_till.specs.Learning.{Learned}
-use Rattle.escpos_till.specs.Entries.{HasKey, IsLedger, MayFollow, content_of, contents, states}
+use Rattle.escpos_till.specs.Entries.{HasKey, IsLedger, MayFollow, content_of, contents, last_number}
 use Rattle.escpos_till.specs.Machine.{Kept, MachineView, Queues, Unsure, after_note, entry_with, lost, told}
-use Rattle.escpos_till.proofs.EntryLemmas.{count_states, ledger-snoc, length-taken}
+use Rattle.escpos_till.proofs.EntryLemmas.{earlier-snoc, last-states, last_same, ledger-snoc}
+use Rattle.escpos_till.proofs.KeyLemmas.{has_here}
 use Rattle.escpos_till_model.specs.Around.{Around, DoesInTime}
 
 -- The receipt of this key is being taken, or its number is told.
@@ -37,19 +38,19 @@ takes_as : (key : List ℕ) (kept : List Entry) (b : Book) (s other : Stage) →
 takes_as key kept b s other is takes = subst (Takes key kept b) (sym is) takes
 
 -- The receipt that comes directly after its key has it.
-has_it : (kept before : List Entry) (key : List ℕ) (content : Content) (number : ℕ) → kept ≡ before ++ entry.Key key ∷ [] → number ≡ length (states (kept ++ entry.Queued content ∷ []))
+has_it : (kept before : List Entry) (key : List ℕ) (content : Content) (number : ℕ) → kept ≡ before ++ entry.Key key ∷ [] → number ≡ last_number (kept ++ entry.Queued content ∷ [])
     → HasKey (kept ++ entry.Queued content ∷ []) key number
 has_it kept before key content number ends is =
     let e : Entry = entry.Queued content in
-    let same : contents kept ≡ contents before = ap contents ends ∙ filter_map-append content_of before (entry.Key key ∷ []) ∙ append-nil (contents before) in
+    let same : last_number kept ≡ last_number before = ap last_number ends ∙ last_same before (entry.Key key) refl refl in
     let more : length (contents (kept ++ e ∷ [])) ≡ length (contents kept) + 1 = ap length (filter_map-append content_of kept (e ∷ [])) ∙ length-append (contents kept) (content ∷ []) in
-    record {
+    has_here (kept ++ e ∷ []) key number (record {
       before = before;
       content = content;
       following = [];
       entries_are = ap (λ es. es ++ e ∷ []) ends ∙ append_assoc before (entry.Key key ∷ []) (e ∷ []);
-      number_is = omega (arith, is, count_states (kept ++ e ∷ []), length-taken 1 (contents (kept ++ e ∷ [])), more, ap length same, length-taken 1 (contents before));
-    }
+      number_is = omega (arith, is, more, earlier-snoc kept e refl, same);
+    })
 
 kept_on : (next : Then) (key : List ℕ) (kept : List Entry) (m mid : MachineView) (e : Entry) → Takes key kept m.book (stage.Keeping e next) → Kept (stage.Keeping e next) m mid
     → Takes key (kept ++ e ∷ []) mid.book mid.stage
@@ -60,7 +61,8 @@ kept_on then.Queued key kept m mid e (book, ledger, follows, (before, ends), (co
     takes_as key (kept ++ e ∷ []) mid.book mid.stage _ at (λ k same.
     let known : IsBookOf mid.book (kept ++ e ∷ []) = notes kept book ledger follows in
     let told_so : number ≡ k = cc same in
-    let all : k ≡ length (states (kept ++ entry.Queued content ∷ [])) = sym told_so ∙ count ∙ ap length known.states ∙ ap (λ x. length (states (kept ++ x ∷ []))) is in
+    let counts : mid.book.earlier + length mid.book.states.items ≡ last_number (kept ++ e ∷ []) = omega (arith, known.earlier, ap length known.states, last-states (kept ++ e ∷ [])) in
+    let all : k ≡ last_number (kept ++ entry.Queued content ∷ []) = sym told_so ∙ count ∙ counts ∙ ap (λ x. last_number (kept ++ x ∷ [])) is in
     subst (λ x. HasKey (kept ++ x ∷ []) key k) (sym is) (has_it kept before key content k ends all))
 kept_on then.Raised key kept m mid e takes so = absurd takes
 kept_on (then.Cancelled number tried) key kept m mid e takes so = absurd takes

@@ -25,15 +25,15 @@ use Rattle.escpos_link.specs.Wire.{WireView, given_up, line_of, wire_of, with_li
 use Rattle.escpos_link.proofs.AtTheEnd.{hung_up_by}
 use Rattle.escpos_till.specs.declared.entry.Content.{Content}
 use Rattle.escpos_till.specs.declared.entry.Entry.{Entry}
-use Rattle.escpos_till.specs.declared.entry.Entry.TheVariants.{Queued, Tried, Recorded, Raised, Cancelled, Key}
+use Rattle.escpos_till.specs.declared.entry.Entry.TheVariants.{Queued, Tried, Recorded, Raised, Cancelled, Key, Renewed, Earlier}
 use Rattle.escpos_till.specs.declared.tries.Try.{Try}
 use Rattle.escpos_till.specs.Delivers.{FirstWaits, fresh}
-use Rattle.escpos_till.specs.Entries.{IsLedger, MayFollow, Taken, Waits, cancel_of, cancelled, cancel_place_of, contents, is_open, next_free, numbered_from, place_of, record_of, recorded, taken}
+use Rattle.escpos_till.specs.Entries.{IsLedger, MayFollow, Taken, Waits, cancel_of, cancelled, cancel_place_of, contents, earlier, is_open, last_number, next_free, numbered_from, place_of, record_of, recorded, taken}
 use Rattle.escpos_till.specs.Machine.{Drops}
 use Rattle.escpos_till.specs.Tries.{HasTry, tries, try_of}
-use Rattle.escpos_till.proofs.EntryLemmas.{length-taken, next_after_tried}
+use Rattle.escpos_till.proofs.EntryLemmas.{earlier_grows, last_grows, last_same, next_after_tried}
 use Rattle.escpos_till_model.proofs.Accounts.{ended_there}
-use Rattle.escpos_till_model.proofs.EntryFacts.{next_grows, receipt_of_grows, taken_append}
+use Rattle.escpos_till_model.proofs.EntryFacts.{next_grows, receipt_of_grows}
 use Rattle.escpos_till_model.proofs.LinesKept.{LineLaws, Right, down_or_up, same_wire}
 use Rattle.escpos_till_model.specs.Late.{LateAnswers}
 use Rattle.escpos_till_model.specs.Receipts.{IsReceiptOf}
@@ -66,24 +66,22 @@ by_entries P step before (e ∷ rest) ledger holds =
 
 -- The closing mark of each try is below the next one that is free, and its receipt was taken.
 abbrev pub AreBelow : List Entry → Type 0
-AreBelow es = (n c : ℕ) → HasTry (tries es) n c → (c < next_free es) × (n ≤ length (taken es))
+AreBelow es = (n c : ℕ) → HasTry (tries es) n c → (c < next_free es) × (n ≤ last_number es)
 
-taken_grows : (es : List Entry) (e : Entry) → length (taken es) ≤ length (taken (es ++ e ∷ []))
-taken_grows es e =
-    omega (arith, ap length (taken_append es (e ∷ [])), length-append (taken es) (numbered_from (1 + length (contents es)) (contents (e ∷ []))))
-
-one_below : (es : List Entry) (e : Entry) (n c : ℕ) → MayFollow es e → HasTry (tries (e ∷ [])) n c → (c < next_free (es ++ e ∷ [])) × (n ≤ length (taken (es ++ e ∷ [])))
+one_below : (es : List Entry) (e : Entry) (n c : ℕ) → MayFollow es e → HasTry (tries (e ∷ [])) n c → (c < next_free (es ++ e ∷ [])) × (n ≤ last_number (es ++ e ∷ []))
 one_below es (Queued content) n c follows has = absurd has
 one_below es (Recorded m) n c follows has = absurd has
 one_below es (Raised next) n c follows has = absurd has
 one_below es (Cancelled m) n c follows has = absurd has
 one_below es (Key key) n c follows has = absurd has
+one_below es (Renewed last) n c follows has = absurd has
+one_below es (Earlier k key) n c follows has = absurd has
 one_below es (Tried m next) n c follows (inr none) = absurd none
 one_below es (Tried m next) n c follows (inl (number, closing)) =
     let last = next_after_tried es m next in
     let more = follows.1 in
     let within = follows.0.taken in
-    let grown = taken_grows es (Tried m next) in
+    let grown = last_grows es (Tried m next ∷ []) in
     (omega (arith, last, closing, more), omega (arith, number, within, grown))
 
 pub are_below : (es : List Entry) → IsLedger es → AreBelow es
@@ -93,7 +91,7 @@ are_below es ledger =
       | inl old ↦
           let so = below n c old in
           let more = next_grows before e follows in
-          let grown = taken_grows before e in
+          let grown = last_grows before (e ∷ []) in
           (omega (arith, so.0, more), omega (arith, so.1, grown))
       | inr new ↦ one_below before e n c follows new
     ]) [] es ledger (λ n c has. absurd has)
@@ -124,9 +122,9 @@ place_before t i [] ys none = refl
 place_before t i (x ∷ xs) ys none = front_none (t x) i (position_from t (i + 1) xs) (position_from t (i + 1) (xs ++ ys)) none (place_before t (i + 1) xs ys)
 
 -- A receipt that waits after one more entry waited before, if it was taken.
-pub waits_before : (es : List Entry) (e : Entry) (n : ℕ) → n ≤ length (taken es) → Waits (es ++ e ∷ []) n → Waits es n
+pub waits_before : (es : List Entry) (e : Entry) (n : ℕ) → n ≤ last_number es → Waits (es ++ e ∷ []) n → Waits es n
 waits_before es e n within waits = record {
-  from_one = waits.from_one;
+  here = omega (arith, earlier_grows es (e ∷ []), waits.here);
   taken = within;
   open_still = place_before (λ m. m == n) 0 (recorded es) (recorded (e ∷ []))
       (subst (λ v. position_from (λ m. m == n) 0 v ≡ None) (filter_map-append record_of es (e ∷ [])) waits.open_still);
@@ -153,8 +151,8 @@ least p m (c ∷ cs) x k is from to passes =
 
 pub first_is_least : (es : List Entry) (number tried : ℕ) (content : Content) → FirstWaits es number content tried → (k : ℕ) → Waits es k → number ≤ k
 first_is_least es number tried content first k waits =
-    least (λ (t : Taken). is_open es t.number) 1 (contents es) (record { number = number; content = content }) k first.first waits.from_one
-    (let within = waits.taken in omega (arith, within, length-taken 1 (contents es)))
+    least (λ (t : Taken). is_open es t.number) (1 + earlier es) (contents es) (record { number = number; content = content }) k first.first (omega (arith, waits.here))
+    (omega (arith, waits.taken))
     (λ t same. open_so (place_of es t.number) (cancel_place_of es t.number) (ap (place_of es) same ∙ waits.open_still) (ap (cancel_place_of es) same ∙ waits.not_cancelled))
   where
     open_so : (p c : Option ℕ) → p ≡ None → c ≡ None → (is_none p && is_none c) ≡ true
@@ -174,7 +172,7 @@ late_more es e records l ledger none late =
       first = λ n c waits has k waits_too.
           let has_so = old n c has in
           let within = (are_below es ledger n c has_so).1 in
-          elim (cases_lt (length (taken es)) k) [
+          elim (cases_lt (last_number es) k) [
             | inl past ↦ omega (arith, within, past)
             | inr inside ↦ late.first n c (waits_before es e n within waits) has_so k (waits_before es e k (omega (arith, inside)) waits_too)
           ];
@@ -212,8 +210,8 @@ late_tried es m next records receipt l ledger follows leads is made late =
       ];
     }
   where
-    same_count : (es : List Entry) (m next : ℕ) → length (taken (es ++ Tried m next ∷ [])) ≡ length (taken es)
-    same_count es m next = ap length (taken_append es (Tried m next ∷ [])) ∙ length-append (taken es) [] ∙ (let n = length (taken es) in omega arith)
+    same_count : (es : List Entry) (m next : ℕ) → last_number (es ++ Tried m next ∷ []) ≡ last_number es
+    same_count es m next = last_same es (Tried m next) refl refl
 
 -- One that says that a receipt is recorded, which was tried: no other that waits was.
 pub late_recorded : (es : List Entry) (m c0 : ℕ) (records : List (List Command)) (l : LineView) (others : List (List Command)) (after : LineView) → IsLedger es → Waits es m
@@ -330,6 +328,8 @@ above limit es (Recorded k) m c within follows has = absurd has
 above limit es (Raised next) m c within follows has = absurd has
 above limit es (Cancelled k) m c within follows has = absurd has
 above limit es (Key key) m c within follows has = absurd has
+above limit es (Renewed last) m c within follows has = absurd has
+above limit es (Earlier number key) m c within follows has = absurd has
 above limit es (Tried k next) m c within follows (inr none) = absurd none
 above limit es (Tried k next) m c within follows (inl (number, closing)) = let more = follows.1 in omega (arith, within, more, closing)
 

@@ -10,6 +10,7 @@ pub mod WorldHears
 pub mod WorldKeeps
 pub mod WorldLearns
 pub mod Worlds
+mod RenewedWorlds
 mod Again
 mod WireEvents
 mod Shown

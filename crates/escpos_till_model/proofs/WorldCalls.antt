@@ -12,7 +12,7 @@ use Rattle.escpos_till.specs.declared.entry.Entry.{Entry}
 use Rattle.escpos_till.specs.declared.machine.Stage.{Stage}
 use Rattle.escpos_till.specs.declared.machine.Stage.TheVariants as stage
 use Rattle.escpos_till.specs.Book.{IsBookOf}
-use Rattle.escpos_till.specs.Entries.{Taken, Waits, cancel_place_of, contents, is_open, next_free, numbered_from, place_of, taken, waiting}
+use Rattle.escpos_till.specs.Entries.{Taken, Waits, cancel_place_of, contents, earlier, is_open, next_free, numbered_from, place_of, taken, waiting}
 use Rattle.escpos_till.specs.declared.book.Book.{Book}
 use Rattle.escpos_till.specs.declared.entry.Entry.TheVariants as entry
 use Rattle.escpos_till.specs.declared.machine.Due.{Due}
@@ -25,7 +25,6 @@ use Rattle.escpos_till.specs.Delivers.{marks_taken}
 use Rattle.escpos_receipt.specs.Whole.{Whole}
 use Rattle.escpos_till.specs.Delivers.{Due as IsDue, FirstWaits}
 use Rattle.escpos_till.specs.Machine.{Cancels, Delivers, Drops, Ended, IsKnown, IsNew, IsNext, MachineView, Queues, Raises, SameEntries, after_note, at, connected, ended_by_pause, hung_up as machine_hung_up, lost, not_connected, taking, told, after_news}
-use Rattle.escpos_till.proofs.EntryLemmas.{length-taken}
 use Rattle.escpos_till.proofs.KeyLemmas.{key_taken}
 use Rattle.escpos_till_model.proofs.EntryFacts.{among_cons, among_filtered, among_last, among_nothing, first_among, first_is_taken}
 use Rattle.escpos_till_model.proofs.Keeping.{gone_keeps}
@@ -214,8 +213,8 @@ first_waits es number tried content first =
     let receipt : Taken = record { number = number; content = content } in
     let (among, still) = among_filtered (λ (r : Taken). is_open es r.number) receipt (taken es) (first_among receipt (waiting es) first.first) in
     let (place, cancel) = open_if (place_of es number) (cancel_place_of es number) still in
-    let bounds = numbered_bounds 1 (contents es) receipt among in
-    record { from_one = omega (arith, bounds.0); taken = omega (arith, bounds.1, length-taken 1 (contents es)); open_still = place; not_cancelled = cancel }
+    let bounds = numbered_bounds (1 + earlier es) (contents es) receipt among in
+    record { here = omega (arith, bounds.0); taken = omega (arith, bounds.1); open_still = place; not_cancelled = cancel }
 
 -- What is due is a receipt of the ledger's.
 pub due_receipt : (kept : List Entry) (copy : Option (List ℕ)) (number : ℕ) (commands : List Command) → IsCopy copy → IsDue kept copy number commands → IsReceiptOf kept number commands

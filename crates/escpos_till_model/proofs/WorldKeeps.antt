@@ -21,7 +21,7 @@ use Rattle.escpos_till.specs.declared.entry.Content.{Content}
 use Rattle.escpos_till.specs.declared.entry.Entry.{Entry}
 use Rattle.escpos_till.specs.declared.machine.Stage.TheVariants as stage
 use Rattle.escpos_till.specs.Book.{IsBookOf}
-use Rattle.escpos_till.specs.Entries.{IsLedger, MayFollow, cancelled, next_free, record_of, recorded, states, taken, times_tried}
+use Rattle.escpos_till.specs.Entries.{IsLedger, MayFollow, cancelled, earlier, last_number, next_free, record_of, recorded, states, taken, times_tried}
 use Rattle.escpos_till.specs.declared.entry.Entry.TheVariants as entry
 use Rattle.escpos_till.specs.declared.machine.Due.{Due}
 use Rattle.escpos_till.specs.declared.machine.Then.{Then}
@@ -33,7 +33,7 @@ use Rattle.escpos_till.specs.Machine.{Follows, Kept, MachineView, Opens, SendsNe
 use Rattle.escpos_till.specs.Pauses.{not_paused}
 use Rattle.escpos_till.specs.declared.machine.Talk.{Talk}
 use Rattle.escpos_host.specs.declared.host.HostEvent.TheVariants as heard
-use Rattle.escpos_till.proofs.EntryLemmas.{count_states, next_after_tried, some_state}
+use Rattle.escpos_till.proofs.EntryLemmas.{last-states, next_after_tried, some_state}
 use Rattle.escpos_till.proofs.MachineLemmas.{waits_tried}
 use Rattle.escpos_till_model.proofs.Accounts.{same_times}
 use Rattle.escpos_till_model.proofs.EntryFacts.{cancelled_append, recorded_append, recorded_same, zip_length}
@@ -240,13 +240,13 @@ quietly_kept laws m after kept w new e p follows none other untried same sound w
     }
 
 -- The receipt that was taken last has the number of all that were taken.
-pub queued_so : (b : Book) (es before : List Entry) (content : Content) (number : ℕ) → IsBookOf b es → es ≡ before ++ entry.Queued content ∷ [] → number ≡ length b.states.items
+pub queued_so : (b : Book) (es before : List Entry) (content : Content) (number : ℕ) → IsBookOf b es → es ≡ before ++ entry.Queued content ∷ [] → number ≡ b.earlier + length b.states.items
     → IsSo es (note_kind.Queued number)
 queued_so b es before content number book is same =
     let all : length b.states.items ≡ length (states es) = ap length book.states in
-    let counts : length (states es) ≡ length (taken es) = count_states es in
+    let counts : earlier es + length (states es) ≡ last_number es = last-states es in
     let some : 0 < length (states es) = some_state es before content is in
-    (omega (arith, same, all, some), omega (arith, same, all, counts))
+    (omega (arith, same, all, some), omega (arith, same, all, counts, book.earlier))
 
 pub recorded_so : (kept : List Entry) (number : ℕ) → Among number (recorded (kept ++ entry.Recorded number ∷ []))
 recorded_so kept number = (recorded kept, [], recorded_append kept (entry.Recorded number ∷ []))

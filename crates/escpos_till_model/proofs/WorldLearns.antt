@@ -20,10 +20,11 @@ use Rattle.escpos_till.specs.declared.state.ReceiptState.TheVariants as state
 use Rattle.escpos_till.specs.declared.store.StoreFault.{StoreFault}
 use Rattle.escpos_till.specs.Book.{IsBookOf}
 use Rattle.escpos_till.specs.Delivers.{marks_taken}
-use Rattle.escpos_till.specs.Entries.{MayFollow, Waits, cancel_place_of, cancelled, next_free, place_in, place_of, record_of, state_by, state_of, taken, times_tried}
+use Rattle.escpos_till.specs.Entries.{MayFollow, Waits, cancel_place_of, cancelled, last_number, next_free, place_in, place_of, record_of, state_by, state_of, times_tried}
 use Rattle.escpos_till.specs.Learning.{FailsToLearn, FollowAll, IsOthers, LearnsAll, Revises, WaitsIn}
 use Rattle.escpos_till.specs.Machine.{Drops, MachineView, printed}
 use Rattle.escpos_till.specs.Tries.{tries}
+use Rattle.escpos_till.proofs.EntryLemmas.{earlier_grows}
 use Rattle.escpos_till.proofs.LearningLemmas.{others_recorded, others_tried}
 use Rattle.escpos_till_model.specs.Kept.{Hand}
 use Rattle.escpos_till_model.specs.Known.{Accounted, BookMayLag, Holds, IsToKeep, IsToRecord, IsToSend, IsWorld}
@@ -46,6 +47,8 @@ other_records (entry.Recorded n) is = absurd is
 other_records (entry.Raised next) is = refl
 other_records (entry.Cancelled n) is = refl
 other_records (entry.Key key) is = refl
+other_records (entry.Renewed last) is = absurd is
+other_records (entry.Earlier n key) is = absurd is
 
 other_tries : (e : Entry) → IsOthers e → tries (e ∷ []) ≡ []
 other_tries (entry.Queued content) is = refl
@@ -54,6 +57,8 @@ other_tries (entry.Recorded n) is = absurd is
 other_tries (entry.Raised next) is = refl
 other_tries (entry.Cancelled n) is = refl
 other_tries (entry.Key key) is = refl
+other_tries (entry.Renewed last) is = absurd is
+other_tries (entry.Earlier n key) is = absurd is
 
 -- With those of others the entries are accounted for still, whatever is in hand.
 others_account : LineLaws → (kept others : List Entry) (hand : Option Hand) (h : HostView) (w : WireView) → AllByRecursion IsOthers others → FollowAll kept others → Accounted kept hand h w
@@ -86,10 +91,10 @@ none_before n i (x ∷ xs) ys none =
     ap (λ b. cond b (Some i) (position_from (λ m. m == n) (i + 1) xs)) other ∙ none_before n (i + 1) xs ys rest
 
 -- What waits then waited before, or is one of those that were taken since.
-waited_or_taken : (kept others : List Entry) (k : ℕ) → AllByRecursion IsOthers others → Waits (kept ++ others) k → Waits kept k ⊎ (length (taken kept) < k)
-waited_or_taken kept others k each waits = elim (within_or_beyond k (length (taken kept))) [
+waited_or_taken : (kept others : List Entry) (k : ℕ) → AllByRecursion IsOthers others → Waits (kept ++ others) k → Waits kept k ⊎ (last_number kept < k)
+waited_or_taken kept others k each waits = elim (within_or_beyond k (last_number kept)) [
   | inl within ↦ inl (record {
-    from_one = waits.from_one;
+    here = omega (arith, earlier_grows kept others, waits.here);
     taken = within;
     open_still = ap (λ rs. place_in rs k) (sym (others_recorded kept others each)) ∙ waits.open_still;
     not_cancelled = none_before k 0 (cancelled kept) (cancelled others) (ap (λ cs. place_in cs k) (sym (cancelled_append kept others)) ∙ waits.not_cancelled);

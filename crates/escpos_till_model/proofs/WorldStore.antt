@@ -24,7 +24,7 @@ use Rattle.escpos_till.specs.declared.entry.Content.{Content}
 use Rattle.escpos_till.specs.declared.entry.Entry.{Entry}
 use Rattle.escpos_till.specs.declared.machine.Stage.TheVariants as stage
 use Rattle.escpos_till.specs.Book.{IsBookOf}
-use Rattle.escpos_till.specs.Entries.{MayFollow, cancelled, contents, next_free, numbered_from, record_of, recorded, taken}
+use Rattle.escpos_till.specs.Entries.{IsLedger, MayFollow, cancelled, earlier, last_number, next_free, record_of, recorded, states, times_tried}
 use Rattle.escpos_till.specs.declared.entry.Entry.TheVariants as entry
 use Rattle.escpos_till.specs.declared.machine.Due.{Due}
 use Rattle.escpos_till.specs.declared.machine.Talk.{Talk}
@@ -34,10 +34,11 @@ use Rattle.escpos_till.specs.declared.machine.TillNote.TheVariants as note_kind
 use Rattle.escpos_till.specs.declared.store.StoreFault.{StoreFault}
 use Rattle.escpos_till.specs.declared.machine.Then.TheVariants as then
 use Rattle.escpos_till.specs.Delivers.{fresh, marks_taken}
-use Rattle.escpos_till.specs.Tries.{tries}
+use Rattle.escpos_till.specs.Tries.{HasTry, tries}
 use Rattle.escpos_till.specs.Machine.{Drops, Ended, MachineView, Suits, Unsure, entry_with, lost, put}
+use Rattle.escpos_till.proofs.EntryLemmas.{last-states, last_grows}
 use Rattle.escpos_till_model.proofs.Accounts.{times_stay}
-use Rattle.escpos_till_model.proofs.EntryFacts.{among_more, cancelled_append, recorded_append, taken_append, zip_length}
+use Rattle.escpos_till_model.proofs.EntryFacts.{among_more, cancelled_append, recorded_append, zip_length}
 use Rattle.escpos_till_model.proofs.GoesOn.{GoesOn, taken_on}
 use Rattle.escpos_till_model.proofs.Keeping.{anew, entry_keeps, front_of, gone_keeps, on_keeps, record_keeps}
 use Rattle.escpos_till_model.specs.Receipts.{Among, IsReceiptOf}
@@ -110,7 +111,7 @@ started laws w new known starts =
 -- What was told is so with one more entry.
 pub so_grows : (kept : List Entry) (e : Entry) (n : TillNote) → MayFollow kept e → IsSo kept n → IsSo (kept ++ e ∷ []) n
 so_grows kept e (note_kind.Queued number) follows (some, within) =
-    (some, omega (arith, within, ap length (taken_append kept (e ∷ [])), length-append (taken kept) (numbered_from (1 + length (contents kept)) (contents (e ∷ [])))))
+    (some, omega (arith, within, last_grows kept (e ∷ [])))
 so_grows kept e note_kind.Raised follows so = so
 so_grows kept e (note_kind.Recorded number) follows so =
     subst (λ ns. Among number ns) (sym (recorded_append kept (e ∷ []))) (among_more number (recorded kept) (recorded (e ∷ [])) so)
@@ -410,6 +411,8 @@ first_records_none (entry.Queued c) content suits = absurd suits
 first_records_none (entry.Tried n next) content suits = absurd suits
 first_records_none (entry.Recorded n) content suits = absurd suits
 first_records_none (entry.Cancelled n) content suits = absurd suits
+first_records_none (entry.Renewed last) content suits = absurd suits
+first_records_none (entry.Earlier k key) content suits = absurd suits
 
 pub first_tries_none : (e : Entry) (content : Content) → Suits (then.Take content) e → tries (e ∷ []) ≡ []
 first_tries_none (entry.Key key) content suits = refl
@@ -418,6 +421,8 @@ first_tries_none (entry.Queued c) content suits = absurd suits
 first_tries_none (entry.Tried n next) content suits = absurd suits
 first_tries_none (entry.Recorded n) content suits = absurd suits
 first_tries_none (entry.Cancelled n) content suits = absurd suits
+first_tries_none (entry.Renewed last) content suits = absurd suits
+first_tries_none (entry.Earlier k key) content suits = absurd suits
 
 -- A receipt that is answered is recorded, and its host has given its link up.
 recorded_account : LineLaws → (kept : List Entry) (e : Entry) (number : ℕ) (hand : Option Hand) (earlier : List (List Command)) (h h' : HostView) (w new : WireView)

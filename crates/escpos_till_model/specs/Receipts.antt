@@ -80,6 +80,8 @@ IsAbout number (entry.Recorded n) = n ≡ number
 IsAbout number (entry.Raised next) = ⊥
 IsAbout number (entry.Cancelled n) = n ≡ number
 IsAbout number (entry.Key key) = ⊥
+IsAbout number (entry.Renewed last) = ⊥
+IsAbout number (entry.Earlier n key) = ⊥
 
 -- By this entry the receipt with this number is recorded or cancelled, and waits no more.
 abbrev pub IsEndOf : ℕ → Entry → Type 0
@@ -89,3 +91,5 @@ IsEndOf number (entry.Recorded n) = n ≡ number
 IsEndOf number (entry.Raised next) = ⊥
 IsEndOf number (entry.Cancelled n) = n ≡ number
 IsEndOf number (entry.Key key) = ⊥
+IsEndOf number (entry.Renewed last) = ⊥
+IsEndOf number (entry.Earlier n key) = ⊥

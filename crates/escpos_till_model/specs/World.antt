@@ -32,7 +32,7 @@ use Rattle.escpos_till.specs.declared.machine.TillNote.{TillNote}
 use Rattle.escpos_till.specs.declared.machine.TillNote.TheVariants as note
 use Rattle.escpos_till.specs.Book.{IsBookOf}
 use Rattle.escpos_till.specs.Copy.{IsCopyText}
-use Rattle.escpos_till.specs.Entries.{IsLedger, cancelled, next_free, recorded, taken, times_tried}
+use Rattle.escpos_till.specs.Entries.{IsLedger, cancelled, last_number, next_free, recorded, times_tried}
 use Rattle.escpos_till.specs.Learning.{AreOthers, FailsToLearn, LearnsAll}
 use Rattle.escpos_till.specs.Machine.{Came, Cancels, Delivers, Ended, IsStarted, Kept, MachineView, Queues, Raises, SameEntries, Unsure, connected, entry_with, hung_up, news_of, not_connected, put, told}
 use Rattle.escpos_till_model.specs.Late.{LateAnswers}
@@ -56,9 +56,9 @@ off w wire = record { machine = None; kept = w.kept; wire = wire; told = w.told 
 abbrev pub with_wire : World → WireView → World
 with_wire w wire = record { machine = w.machine; kept = w.kept; wire = wire; told = w.told }
 
--- What an owner is told of a receipt is so by these entries: it was taken, or it is recorded, or it is cancelled and was tried so often.
+-- What an owner is told of a receipt is so by these entries: it was taken, here or in an older ledger, or it is recorded, or it is cancelled and was tried so often.
 abbrev pub IsSo : List Entry → TillNote → Type 0
-IsSo kept (note.Queued number) = (0 < number) × (number ≤ length (taken kept))
+IsSo kept (note.Queued number) = (0 < number) × (number ≤ last_number kept)
 IsSo kept (note.Recorded number) = Among number (recorded kept)
 IsSo kept (note.Cancelled number tried) = Among number (cancelled kept) × (times_tried kept number ≡ tried)
 IsSo kept n = Unit {0}

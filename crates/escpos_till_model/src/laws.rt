@@ -13,11 +13,12 @@ ghost use Rattle.escpos_till.specs.declared.machine.TillNote.{TillNote};
 ghost use Rattle.escpos_till.specs.declared.machine.TillNote.TheVariants as note;
 ghost use Rattle.escpos_till.specs.declared.machine.TillRefusal.TheVariants as refusal;
 ghost use Rattle.escpos_till.specs.declared.surroundings.Surroundings.{Surroundings};
-ghost use Rattle.escpos_till.specs.Entries.{HasKey, IsLedger, Taken, cancelled, next_free, recorded, taken, times_tried, waiting};
+ghost use Rattle.escpos_till.specs.Entries.{HasKey, IsLedger, Taken, cancelled, last_number, next_free, recorded, taken, times_tried, waiting};
 ghost use Rattle.escpos_host.specs.Machine.{IsSound};
 ghost use Rattle.escpos_till.specs.Book.{IsBookOf};
 ghost use Rattle.escpos_till.specs.Driver.{Answered, Call, Confirms, Queue, Ran, RanTo, Serves, Tells};
 ghost use Rattle.escpos_till.specs.Machine.{Delivers, IsStarted, MachineView, RefusesDeliver, after_note};
+ghost use Rattle.escpos_till.specs.Renewing.{Renews};
 ghost use Rattle.escpos_till.specs.Surroundings.{Did};
 ghost use Rattle.escpos_till_model.specs.Again.{HearsAnswer, IsLostFirst, IsNotTriedAgain};
 ghost use Rattle.escpos_till_model.specs.Around.{Around, CrashesTo, DoesInTime, IsAround, Reaches, around};
@@ -27,7 +28,7 @@ ghost use Rattle.escpos_till_model.specs.Carried.{AreApart, Carried, Carries, Ha
 ghost use Rattle.escpos_till_model.specs.Receipts.{Among, EachIsKept, Extends, IsAbout, IsEndOf, RecordedStand};
 ghost use Rattle.escpos_till_model.specs.declared.event.Happening.{Happening};
 ghost use Rattle.escpos_till_model.specs.Known.{BookMayLag, IsWorld};
-ghost use Rattle.escpos_till_model.specs.World.{Begins, HasCome, Runs, World, off};
+ghost use Rattle.escpos_till_model.specs.World.{Begins, HasCome, IsSo, Runs, World, off};
 
 use crate::wire_line::{SameWire, WireLine};
 use escpos_till::{PrinterLine, Store};
@@ -57,7 +58,7 @@ pub fn what_is_recorded_stands()
         → RecordedStand after.wire.printer.sheet.line_dots after.kept after.wire.printer.sheet.items }
     ensures kept { (w after : World) (happenings : List Happening) → Begins w → Runs w happenings after → EachIsKept after.kept }
     ensures queued { (w after : World) (happenings : List Happening) (number : ℕ) → Begins w → Runs w happenings after → Among (note.Queued number) after.told
-        → (0 < number) × (number ≤ length (taken after.kept)) }
+        → (0 < number) × (number ≤ last_number after.kept) }
     ensures recorded { (w after : World) (happenings : List Happening) (number : ℕ) → Begins w → Runs w happenings after → Among (note.Recorded number) after.told
         → Among number (recorded after.kept) }
     ensures cancelled { (w after : World) (happenings : List Happening) (number tried : ℕ) → Begins w → Runs w happenings after → Among (note.Cancelled number tried) after.told
@@ -75,6 +76,18 @@ pub fn what_is_recorded_stands()
     escpos_link::laws::every_line();
     escpos_link::laws::in_turn();
     escpos_link::laws::fitting();
+}
+
+/// A ledger that goes on from an older one, whose till is off: in the same world, with the same wire, a till may begin with it, if it has no
+/// receipt as recorded. So all that holds of a till in the world holds on. Whoever was told of the older ledger that a receipt is queued may
+/// rely on it.
+pub fn a_renewed_ledger_goes_on()
+    ensures begins { (w : World) (new : List Entry) (told : List TillNote) → Begins w → Renews w.kept new → recorded new ≡ [] → ((n : TillNote) → Among n told → IsSo new n)
+        → Begins (record { machine = None; kept = new; wire = w.wire; told = told }) }
+    ensures queued { (old new : List Entry) (number : ℕ) → Renews old new → IsSo old (note.Queued number) → IsSo new (note.Queued number) }
+{
+    escpos_link::laws::trust();
+    escpos_link::laws::promise();
 }
 
 /// What is heard: once a machine has heard an answer to the closing mark of a try of a receipt, be it of an older link, no entry says that the
@@ -124,7 +137,7 @@ pub fn a_driven_till_is_in_the_world()
         → Ran DoesInTime m a after new → EachIsKept new.kept }
     ensures extends { (m after : MachineView) (a new : Around) (w : World) → IsAround m a w → Ran DoesInTime m a after new → Extends a.kept new.kept }
     ensures queued { (first w : World) (happenings : List Happening) (m after : MachineView) (a new : Around) (number : ℕ) → Begins first → Runs first happenings w → IsAround m a w
-        → Ran DoesInTime m a after new → Among (note.Queued number) new.told → (0 < number) × (number ≤ length (taken new.kept)) }
+        → Ran DoesInTime m a after new → Among (note.Queued number) new.told → (0 < number) × (number ≤ last_number new.kept) }
     ensures recorded { (first w : World) (happenings : List Happening) (m after : MachineView) (a new : Around) (number : ℕ) → Begins first → Runs first happenings w → IsAround m a w
         → Ran DoesInTime m a after new → Among (note.Recorded number) new.told → Among number (recorded new.kept) }
     ensures cancelled { (first w : World) (happenings : List Happening) (m after : MachineView) (a new : Around) (number tried : ℕ) → Begins first → Runs first happenings w → IsAround m a w
@@ -190,7 +203,7 @@ pub fn a_served_till_is_in_the_world<S: Store, L: PrinterLine>()
     ensures kept { (world : World) (m after : MachineView) (old new : Surroundings S L) (call : Call) (note : TillNote) (most : ℕ) (wire : WireView) (left : List Entry) → IsServed S.faithful S.holds S.leaves S.says L.did world m old call note most after new wire
         → S.leaves new.store left → EachIsKept left × Extends world.kept left }
     ensures queued { (world : World) (m after : MachineView) (old new : Surroundings S L) (call : Call) (number most : ℕ) (wire : WireView) (left : List Entry)
-        → IsServed S.faithful S.holds S.leaves S.says L.did world m old call (note.Queued number) most after new wire → S.leaves new.store left → (0 < number) × (number ≤ length (taken left)) }
+        → IsServed S.faithful S.holds S.leaves S.says L.did world m old call (note.Queued number) most after new wire → S.leaves new.store left → (0 < number) × (number ≤ last_number left) }
     ensures keyed { (world : World) (m after : MachineView) (old new : Surroundings S L) (content : Content) (key : List ℕ) (number most : ℕ) (wire : WireView) (left : List Entry)
         → IsServed S.faithful S.holds S.leaves S.says L.did world m old (Queue content (Some key)) (note.Queued number) most after new wire → S.leaves new.store left
         → HasKey left key number × ((other : ℕ) → HasKey left key other → other ≡ number) }
@@ -222,7 +235,7 @@ pub fn a_row_of_calls_is_in_the_world<S: Store, L: PrinterLine, W: LikeWire<L>>(
         → AreServed S.faithful S.holds S.leaves S.says L.did W.fits world m old answered most after new → S.leaves new.store left → EachIsKept left × Extends world.kept left }
     ensures queued { (world : World) (m after : MachineView) (old new : Surroundings S L) (answered : List Answered) (number most : ℕ) (left : List Entry)
         → AreServed S.faithful S.holds S.leaves S.says L.did W.fits world m old answered most after new → S.leaves new.store left → Among (note.Queued number) (told_of answered)
-        → (0 < number) × (number ≤ length (taken left)) }
+        → (0 < number) × (number ≤ last_number left) }
     ensures recorded { (world : World) (m after : MachineView) (old new : Surroundings S L) (answered : List Answered) (number most : ℕ) (left : List Entry)
         → AreServed S.faithful S.holds S.leaves S.says L.did W.fits world m old answered most after new → S.leaves new.store left → Among (note.Recorded number) (told_of answered)
         → Among number (recorded left) }

@@ -3,7 +3,7 @@
 ghost use Rattle.std.specs.Prelude.{ℕ, ◌≡◌, ◌<◌, ◌≤◌, [], length, None, option_map, IfOk, IfErr, OnOk};
 ghost use Rattle.escpos_paper.specs.Page.{SheetIs};
 ghost use Rattle.escpos_till.specs.declared.machine.TillNote.TheVariants as note;
-ghost use Rattle.escpos_till.specs.Entries.{cancelled, recorded, taken, times_tried};
+ghost use Rattle.escpos_till.specs.Entries.{cancelled, last_number, recorded, times_tried};
 ghost use Rattle.escpos_till_model.specs.Instead.{Instead, Ran};
 ghost use Rattle.escpos_till_model.specs.Known.{IsWorld};
 ghost use Rattle.escpos_till_model.specs.Receipts.{Among, EachIsKept, Extends, RecordedStand};
@@ -109,7 +109,7 @@ impl Till {
         ensures told { result.now ≡ self.now.told }
         // A receipt that he was told is taken is; so is one that he was told is recorded, or cancelled. What is cancelled was tried so
         // often, and no entry tries it later.
-        ensures queued { (number : ℕ) → Among (note.Queued number) self.now.told → (0 < number) × (number ≤ length (taken self.now.kept)) }
+        ensures queued { (number : ℕ) → Among (note.Queued number) self.now.told → (0 < number) × (number ≤ last_number self.now.kept) }
         ensures recorded { (number : ℕ) → Among (note.Recorded number) self.now.told → Among number (recorded self.now.kept) }
         ensures cancelled { (number tried : ℕ) → Among (note.Cancelled number tried) self.now.told → Among number (cancelled self.now.kept) × (times_tried self.now.kept number ≡ tried) }
     {
@@ -141,7 +141,7 @@ impl Till {
         ensures come { HasCome self.now }
         ensures stands { RecordedStand self.now.wire.printer.sheet.line_dots self.now.kept self.now.wire.printer.sheet.items }
         ensures kept { EachIsKept self.now.kept }
-        ensures queued { (number : ℕ) → Among (note.Queued number) self.now.told → (0 < number) × (number ≤ length (taken self.now.kept)) }
+        ensures queued { (number : ℕ) → Among (note.Queued number) self.now.told → (0 < number) × (number ≤ last_number self.now.kept) }
         ensures recorded { (number : ℕ) → Among (note.Recorded number) self.now.told → Among number (recorded self.now.kept) }
         ensures cancelled { (number tried : ℕ) → Among (note.Cancelled number tried) self.now.told → Among number (cancelled self.now.kept) × (times_tried self.now.kept number ≡ tried) }
     {

@@ -10,7 +10,7 @@ use std::process::Abort;
 
 // What a test adds as its entry of this number, from 1 on: the kinds take turns, and each entry says its number.
 fn entry_at(rt: &impl Abort, alloc: Global, at: u32) -> Entry {
-    match at % 6 {
+    match at % 8 {
         0 => Entry::Raised { next: at },
         1 => Entry::Queued {
             content: Content::new(at.to_be_bytes().to_vec(alloc).expect(rt, "memory")),
@@ -25,7 +25,12 @@ fn entry_at(rt: &impl Abort, alloc: Global, at: u32) -> Entry {
         4 => Entry::Cancelled {
             number: number(rt, at as usize),
         },
-        _ => Entry::Key {
+        5 => Entry::Key {
+            key: key(rt, &letters(at)),
+        },
+        6 => Entry::Renewed { last: at },
+        _ => Entry::Earlier {
+            number: number(rt, at as usize),
             key: key(rt, &letters(at)),
         },
     }
@@ -39,12 +44,16 @@ fn letters(at: u32) -> [u8; 3] {
 // Whether it is that entry.
 fn is_entry_at(entry: &Entry, at: u32) -> bool {
     match entry {
-        Entry::Queued { content } => at % 6 == 1 && content.bytes() == at.to_be_bytes().as_slice(),
-        Entry::Tried { number, next } => at % 6 == 2 && number.get() == at as usize && *next == at,
-        Entry::Recorded { number } => at % 6 == 3 && number.get() == at as usize,
-        Entry::Raised { next } => at % 6 == 0 && *next == at,
-        Entry::Cancelled { number } => at % 6 == 4 && number.get() == at as usize,
-        Entry::Key { key } => at % 6 == 5 && key.bytes() == letters(at).as_slice(),
+        Entry::Queued { content } => at % 8 == 1 && content.bytes() == at.to_be_bytes().as_slice(),
+        Entry::Tried { number, next } => at % 8 == 2 && number.get() == at as usize && *next == at,
+        Entry::Recorded { number } => at % 8 == 3 && number.get() == at as usize,
+        Entry::Raised { next } => at % 8 == 0 && *next == at,
+        Entry::Cancelled { number } => at % 8 == 4 && number.get() == at as usize,
+        Entry::Key { key } => at % 8 == 5 && key.bytes() == letters(at).as_slice(),
+        Entry::Renewed { last } => at % 8 == 6 && *last == at,
+        Entry::Earlier { number, key } => {
+            at % 8 == 7 && number.get() == at as usize && key.bytes() == letters(at).as_slice()
+        }
     }
 }
 

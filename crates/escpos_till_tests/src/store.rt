@@ -39,6 +39,11 @@ fn entries_of(rt: &impl Abort, alloc: Global) -> Vec<Entry> {
     for text in [b"!".as_slice(), b"sale-7", &[b'~'; 64]] {
         let _ = entries.push(Entry::Key { key: key(rt, text) });
     }
+    let _ = entries.push(Entry::Renewed { last: u32::MAX });
+    let _ = entries.push(Entry::Earlier {
+        number,
+        key: key(rt, b"sale-8"),
+    });
     let _ = entries.push(Entry::Queued { content: empty });
     for (dots, replacement) in [
         (576, None),
@@ -70,6 +75,11 @@ fn are_alike(rt: &impl Abort, entry: &Entry, wanted: &Entry) {
             assert!(rt; *number == *n);
         }
         (Entry::Key { key }, Entry::Key { key: k }) => assert!(rt; key.bytes() == k.bytes()),
+        (Entry::Renewed { last }, Entry::Renewed { last: n }) => assert!(rt; *last == *n),
+        (Entry::Earlier { number, key }, Entry::Earlier { number: n, key: k }) => {
+            assert!(rt; *number == *n);
+            assert!(rt; key.bytes() == k.bytes());
+        }
         _ => panic!(rt; "another kind of entry"),
     }
 }

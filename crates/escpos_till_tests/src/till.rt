@@ -4,4 +4,5 @@ mod delivering;
 mod driver;
 mod keys;
 mod machine;
+mod renewing;
 mod rows;

@@ -16,7 +16,8 @@ pub fn asks_for(rt: &impl Abort, alloc: Global, words: &[&str], asked: Result<Ta
 
 // A task with its ledger's path: the dots of a line, and what is printed in place of a character that no code table has; the
 // printer's address, how many opening marks, for how many seconds a printer that prints nothing is waited for, and whether there
-// is a text for copies, with how many seconds any other wait may last, if that is given; the number of a receipt; or the number that the next mark number is raised to.
+// is a text for copies, with how many seconds any other wait may last, if that is given; the number of a receipt;
+// the path of the ledger that is to go on from it; or the number that the next mark number is raised to.
 #[derive(Clone, Copy, PartialEq)]
 pub enum Plain<'a> {
     Queue(&'a str, u16, Option<char>),
@@ -27,6 +28,7 @@ pub enum Plain<'a> {
     Deliver(&'a str, Option<SocketAddrV4>, u32, u32, bool),
     Within(&'a str, Option<SocketAddrV4>, u32, u32, bool, u32),
     Cancel(&'a str, usize),
+    Renew(&'a str, &'a str),
     List(&'a str, Option<u32>),
 }
 
@@ -84,6 +86,7 @@ fn plain_of<'a>(task: TillTask<'a>) -> Plain<'a> {
             wait,
         ),
         TillTask::Cancel { ledger, number } => Plain::Cancel(ledger.text(), number.get()),
+        TillTask::Renew { ledger, new } => Plain::Renew(ledger.text(), new.text()),
         TillTask::List { ledger, first } => Plain::List(ledger.text(), first),
     }
 }

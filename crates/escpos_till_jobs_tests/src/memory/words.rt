@@ -271,3 +271,23 @@ fn perform_refused(rt: HostRuntime) {
         assert!(&rt; waits(&rt, rt.alloc(), &mut ledger));
     }
 }
+
+// A ledger without receipts goes on in another.
+fn renews(rt: &impl Abort, alloc: Global) -> bool {
+    let mut ledger = OneLedger {
+        path: "a",
+        store: Some(raised_store(rt, alloc)),
+    };
+    let task = TillTask::Renew {
+        ledger: LedgerPath::new("a"),
+        new: LedgerPath::new("b"),
+    };
+    performs(rt, alloc, &mut ledger, task, (b"renewed 0\n", Status::Good))
+}
+
+#[test]
+fn renew_refused(rt: HostRuntime) {
+    if !renews(&rt, rt.alloc()) {
+        assert!(&rt; renews(&rt, rt.alloc()));
+    }
+}

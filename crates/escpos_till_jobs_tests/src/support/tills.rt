@@ -11,8 +11,8 @@ use escpos_till::{
     Store, Surroundings,
 };
 use escpos_till_jobs::{
-    Delivery, Dial, LedgerPath, Ledgers, Link, LinkLine, NetworkLines, TillTask, Word, do_with,
-    perform_till, read_content,
+    Delivery, Dial, LedgerPath, Ledgers, Link, LinkLine, NetworkLines, NewLedgers, NoRenewal,
+    TillTask, Word, do_with, perform_till, read_content,
 };
 use std::alloc::Global;
 use std::io;
@@ -205,6 +205,32 @@ impl Ledgers<MemoryStore> for OneLedger {
     }
 }
 
+// A new ledger may be written at one path, in memory. At any other path there is one already.
+#[derive(Drop)]
+pub struct NewLedger {
+    pub alloc: Global,
+    pub path: &'static str,
+    pub store: Option<MemoryStore>,
+}
+
+impl NewLedgers<MemoryStore> for NewLedger {
+    ghost begun = { λ old path result new. Unit {0} };
+
+    ghost finished = { λ old store path result new. Unit {0} };
+
+    fn begin(&mut self, path: &LedgerPath<'_>) -> Result<MemoryStore, NoRenewal> {
+        if path.text() != self.path {
+            return Err(NoRenewal::Exists);
+        }
+        Ok(MemoryStore::new(self.alloc, Vec::new(self.alloc), Failure::Never))
+    }
+
+    fn finish(&mut self, store: MemoryStore, _path: &LedgerPath<'_>) -> Result<(), NoRenewal> {
+        self.store = Some(store);
+        Ok(())
+    }
+}
+
 // What is asked of a ledger, where nobody is reached: its status.
 pub fn performed<R: ByteIn, W: ByteOut>(
     alloc: Global,
@@ -217,12 +243,28 @@ pub fn performed<R: ByteIn, W: ByteOut>(
         path: "",
         store: None,
     };
+    let mut news = NewLedger {
+        alloc,
+        path: "b",
+        store: None,
+    };
+    performed_with(alloc, (ledger, &mut other, &mut news), task, input, output)
+}
+
+// The same where a new ledger may be written, and another is opened for what is shared, or for what isn't.
+pub fn performed_with<R: ByteIn, W: ByteOut>(
+    alloc: Global,
+    (ledger, other, news): (&mut OneLedger, &mut OneLedger, &mut NewLedger),
+    task: TillTask<'_>,
+    input: &mut R,
+    output: &mut W,
+) -> Status {
     let mut lines = NetworkLines::new(&Nobody);
     match task {
-        TillTask::Deliver { .. } | TillTask::DeliverWithin { .. } => {
-            perform_till(alloc, &mut other, ledger, &mut lines, task, input, output)
+        TillTask::Deliver { .. } | TillTask::DeliverWithin { .. } | TillTask::Renew { .. } => {
+            perform_till(alloc, other, ledger, news, &mut lines, task, input, output)
         }
-        task => perform_till(alloc, ledger, &mut other, &mut lines, task, input, output),
+        task => perform_till(alloc, ledger, other, news, &mut lines, task, input, output),
     }
 }
 

@@ -2,7 +2,8 @@
 
 use crate::support::tills::{bytes_at_last, number};
 use escpos_till::{
-    Action, Content, Entry, NoMachine, StoreFault, TillMachine, TillRefusal, copies, others_since,
+    Action, Content, Entry, NoMachine, NotRenewed, StoreFault, TillMachine, TillRefusal, copies,
+    others_since, renewed,
 };
 use std::alloc::Global;
 use std::process::Abort;
@@ -97,4 +98,26 @@ fn copies_of_entries_refused(rt: HostRuntime) {
     };
     assert!(&rt; copied.len() == 2);
     assert!(&rt; copied[1].is_same(&entries[1]));
+}
+
+// A ledger with a receipt that waits goes on. None where memory is refused.
+fn goes_on(rt: &impl Abort, alloc: Global, entries: &[Entry]) -> bool {
+    match renewed(alloc, entries) {
+        Ok(new) => {
+            assert!(rt; new.len() == 3);
+            true
+        }
+        Err(why) => {
+            assert!(rt; why == NotRenewed::Memory);
+            false
+        }
+    }
+}
+
+#[test]
+fn renewed_refused(rt: HostRuntime) {
+    let entries = [taken(&rt, rt.alloc()), Entry::Raised { next: 7 }];
+    if !goes_on(&rt, rt.alloc(), &entries) {
+        assert!(&rt; goes_on(&rt, rt.alloc(), &entries));
+    }
 }

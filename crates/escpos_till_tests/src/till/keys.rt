@@ -25,6 +25,8 @@ fn has(rt: &impl Abort, alloc: Global, till: &mut DrivenTill, kinds: &str) {
             Entry::Raised { .. } => b'n',
             Entry::Cancelled { .. } => b'c',
             Entry::Key { .. } => b'k',
+            Entry::Renewed { .. } => b'o',
+            Entry::Earlier { .. } => b'e',
         };
         assert!(rt; is == *kind);
     }

@@ -14,13 +14,13 @@ returns-in_err-put_state g c =
     let inside : i < length ss = omega arith in
     let past : i + 1 ≤ length ss = omega arith in
     let device = c.in_err-put_state.field-0.0 in
-    let number : 1 + i ≡ c.loop-state.place + 1 = omega (arith, c.loop-state.invariant.place) in
-    let line : state_lines 1 (take (i + 1) ss) ≡ state_lines 1 (take i ss) ++ state_line (c.loop-state.place + 1) s =
-    one_more_line 1 ss i (Waiting 0) inside ∙ ap (λ n. state_lines 1 (take i ss) ++ state_line n s) number in
-    let stopped = given_in_turn (Err device) _ _ _ _ _ _ _ _ _ (state_lines 1 (take i ss)) (state_line (c.loop-state.place + 1) s) (state_lines 1 (take (i + 1) ss))
+    let number : 1 + c.args.earlier + i ≡ c.loop-state.place + 1 = omega (arith, c.loop-state.invariant.place) in
+    let line : state_lines (1 + c.args.earlier) (take (i + 1) ss) ≡ state_lines (1 + c.args.earlier) (take i ss) ++ state_line (c.loop-state.place + 1) s =
+    one_more_line (1 + c.args.earlier) ss i (Waiting 0) inside ∙ ap (λ n. state_lines (1 + c.args.earlier) (take i ss) ++ state_line n s) number in
+    let stopped = given_in_turn (Err device) _ _ _ _ _ _ _ _ _ (state_lines (1 + c.args.earlier) (take i ss)) (state_line (c.loop-state.place + 1) s) (state_lines (1 + c.args.earlier) (take (i + 1) ss))
     c.loop-state.invariant.given c.in_err-put_state.ensures line in
-    given_in_the_front c.from_residual.result device _ _ _ (state_lines 1 (take (i + 1) ss)) (state_lines (1 + (i + 1)) (drop (i + 1) ss)) _
-    c.from_residual.ensures.1 stopped (lines_and_rest 1 ss (i + 1) past)
+    given_in_the_front c.from_residual.result device _ _ _ (state_lines (1 + c.args.earlier) (take (i + 1) ss)) (state_lines (1 + c.args.earlier + (i + 1)) (drop (i + 1) ss)) _
+    c.from_residual.ensures.1 stopped (lines_and_rest (1 + c.args.earlier) ss (i + 1) past)
 
 pub loop-state-preserved : goal.loop-state-preserved
 loop-state-preserved g c =
@@ -29,10 +29,10 @@ loop-state-preserved g c =
     let s = get_or ss i (Waiting 0) in
     let inside : i < length ss = omega arith in
     let past : i + 1 ≤ length ss = omega arith in
-    let number : 1 + i ≡ c.loop-state.place + 1 = omega (arith, c.loop-state.invariant.place) in
-    let line : state_lines 1 (take (i + 1) ss) ≡ state_lines 1 (take i ss) ++ state_line (c.loop-state.place + 1) s =
-    one_more_line 1 ss i (Waiting 0) inside ∙ ap (λ n. state_lines 1 (take i ss) ++ state_line n s) number in
+    let number : 1 + c.args.earlier + i ≡ c.loop-state.place + 1 = omega (arith, c.loop-state.invariant.place) in
+    let line : state_lines (1 + c.args.earlier) (take (i + 1) ss) ≡ state_lines (1 + c.args.earlier) (take i ss) ++ state_line (c.loop-state.place + 1) s =
+    one_more_line (1 + c.args.earlier) ss i (Waiting 0) inside ∙ ap (λ n. state_lines (1 + c.args.earlier) (take i ss) ++ state_line n s) number in
     record {
       place = omega (arith, c.loop-state.invariant.place);
-      given = given_in_turn (Ok tt) _ _ _ _ _ _ _ _ _ (state_lines 1 (take i ss)) (state_line (c.loop-state.place + 1) s) _ c.loop-state.invariant.given c.in_ok-put_state.ensures line;
+      given = given_in_turn (Ok tt) _ _ _ _ _ _ _ _ _ (state_lines (1 + c.args.earlier) (take i ss)) (state_line (c.loop-state.place + 1) s) _ c.loop-state.invariant.given c.in_ok-put_state.ensures line;
     }

@@ -11,6 +11,11 @@ returns-in-NotTaken-clause-tells g c =
     tells_number _ (number_line (codes "refused NotTaken ")) refusal.NotTaken c.args.why c.in-NotTaken.number c.get-in-NotTaken.result c.in-NotTaken.is c.get-in-NotTaken.ensures.value refl refl
     c.tell_number-in-NotTaken.ensures.tells
 
+pub returns-in-Earlier-clause-tells : goal.returns-in-Earlier-clause-tells
+returns-in-Earlier-clause-tells g c =
+    tells_number _ (number_line (codes "refused Earlier ")) refusal.Earlier c.args.why c.in-Earlier.number c.get-in-Earlier.result c.in-Earlier.is c.get-in-Earlier.ensures.value refl refl
+    c.tell_number-in-Earlier.ensures.tells
+
 pub returns-in-Recorded-clause-tells : goal.returns-in-Recorded-clause-tells
 returns-in-Recorded-clause-tells g c =
     tells_number _ (number_line (codes "refused Recorded ")) refusal.Recorded c.args.why c.in-Recorded.number c.get-in-Recorded.result c.in-Recorded.is c.get-in-Recorded.ensures.value refl refl

@@ -1,7 +1,7 @@
 -- Each task is done as it says.
 use Rattle.std.proofs.Common.{sym, ◌∙◌, ap, subst, inl, inr, refl, Err}
 use Rattle.escpos_till_jobs.specs.Outputs.{output_of}
-use Rattle.escpos_till_jobs.specs.Performing.{OfCancel, OfDeliver, OfDeliverWithin, OfList, OfQueue, OfQueueAgain, OfQueueRaw}
+use Rattle.escpos_till_jobs.specs.Performing.{OfCancel, OfDeliver, OfDeliverWithin, OfList, OfQueue, OfQueueAgain, OfQueueRaw, OfRenew}
 use Rattle.escpos_till_jobs.proofs.RawTasks.{refuses_raw}
 use Rattle.escpos_till_jobs.proofs.Tasks.{refuses_for}
 use Rattle.escpos_till_jobs.proofs.perform.perform_till.Goals as goal
@@ -51,3 +51,6 @@ returns-in-Cancel-clause-cancel g c = subst (OfCancel _) (sym c.in-Cancel.is) (_
 
 pub returns-in-List-clause-list : goal.returns-in-List-clause-list
 returns-in-List-clause-list g c = subst (OfList _) (sym c.in-List.is) (_, c.do_at-in-List.result.0, c.do_at-in-List.ensures.does)
+
+pub returns-in-Renew-clause-renew : goal.returns-in-Renew-clause-renew
+returns-in-Renew-clause-renew g c = subst (OfRenew _) (sym c.in-Renew.is) c.renew_ledger.ensures.renews

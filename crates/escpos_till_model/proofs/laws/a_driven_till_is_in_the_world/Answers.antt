@@ -1,6 +1,6 @@
 -- A driver's run, one deed after another; and what holds of every run of the world.
-use Rattle.std.proofs.Common.{◌≤◌, List, ◌++◌, length, sym, subst, ap}
-use Rattle.escpos_till.specs.Entries.{recorded, taken}
+use Rattle.std.proofs.Common.{◌≤◌, List, ◌++◌, sym, subst, ap}
+use Rattle.escpos_till.specs.Entries.{last_number, recorded}
 use Rattle.escpos_till.specs.Machine.{MachineView}
 use Rattle.escpos_till.specs.declared.machine.TillNote.TheVariants as note
 use Rattle.escpos_till_model.specs.Around.{Around, Reaches}
@@ -49,7 +49,7 @@ returns-clause-queued c = λ first w happenings m after a new number begins runs
     let reaches = driven m after a new w around ran in
     let so = c.what_is_recorded_stands.ensures.queued first reaches.now (all_of w happenings after new reaches) number begins (all_run first w happenings after new runs reaches)
     (subst (Among (note.Queued number)) (sym reaches.told) among) in
-    (so.0, subst (λ kept. number ≤ length (taken kept)) reaches.kept so.1)
+    (so.0, subst (λ kept. number ≤ last_number kept) reaches.kept so.1)
 
 pub returns-clause-recorded : goal.returns-clause-recorded
 returns-clause-recorded c = λ first w happenings m after a new number begins runs around ran among.

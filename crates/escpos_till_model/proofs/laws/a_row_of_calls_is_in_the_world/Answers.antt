@@ -1,7 +1,7 @@
 -- Calls that were served one after another, in the world; and what holds of the world that they lead to.
-use Rattle.std.proofs.Common.{◌≤◌, ◌++◌, length, sym, subst}
+use Rattle.std.proofs.Common.{◌≤◌, ◌++◌, sym, subst}
 use Rattle.escpos_till.specs.declared.machine.TillNote.TheVariants as note
-use Rattle.escpos_till.specs.Entries.{recorded, taken}
+use Rattle.escpos_till.specs.Entries.{last_number, recorded}
 use Rattle.escpos_till_model.specs.Around.{around}
 use Rattle.escpos_till_model.specs.Bridge.{GoesTo, told_of}
 use Rattle.escpos_till_model.specs.Receipts.{Among, EachIsKept, Extends, RecordedStand}
@@ -44,7 +44,7 @@ returns-clause-queued g c = λ world m after old new answered number most left i
     let (wire, like, goes) = returns-clause-may_leave g c world m after old new answered most left it may in
     let told : Among (note.Queued number) goes.now.told = subst (λ a. Among (note.Queued number) a.told) goes.is.surrounds (among_later (note.Queued number) world.told (told_of answered) among) in
     let so = c.what_is_recorded_stands.ensures.queued goes.come.first goes.now goes.come.happenings number goes.come.begins goes.come.runs told in
-    (so.0, subst (λ a. number ≤ length (taken a.kept)) (sym goes.is.surrounds) so.1)
+    (so.0, subst (λ a. number ≤ last_number a.kept) (sym goes.is.surrounds) so.1)
 
 pub returns-clause-recorded : goal.returns-clause-recorded
 returns-clause-recorded g c = λ world m after old new answered number most left it may among.

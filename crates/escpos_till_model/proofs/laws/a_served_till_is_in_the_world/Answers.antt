@@ -1,10 +1,10 @@
 -- A call that was served, in the world; and what holds of the world that it leads to.
-use Rattle.std.proofs.Common.{◌≡◌, ◌≤◌, [], ◌∷◌, ◌++◌, ◌∙◌, Some, length, refl, sym, subst}
+use Rattle.std.proofs.Common.{◌≡◌, ◌≤◌, [], ◌∷◌, ◌++◌, ◌∙◌, Some, refl, sym, subst}
 use Rattle.escpos_till.specs.Surroundings.{Did}
 use Rattle.escpos_till.specs.declared.machine.Stage.TheVariants as stage
 use Rattle.escpos_till.specs.declared.machine.TillNote.TheVariants as note
 use Rattle.escpos_till.specs.Book.{IsBookOf}
-use Rattle.escpos_till.specs.Entries.{IsLedger, recorded, taken}
+use Rattle.escpos_till.specs.Entries.{IsLedger, last_number, recorded}
 use Rattle.escpos_till.specs.Driver.{Queue, Ran, Tells}
 use Rattle.escpos_till_model.specs.Around.{DoesInTime, around}
 use Rattle.escpos_till_model.specs.Bridge.{notes_of}
@@ -81,7 +81,7 @@ returns-clause-queued g c = λ world m after old new call number most wire left 
     let goes = returns-clause-may_leave g c world m after old new call (note.Queued number) most wire left it may in
     let among : Among (note.Queued number) goes.now.told = subst (λ a. Among (note.Queued number) a.told) goes.is.surrounds (world.told, [], refl) in
     let so = c.what_is_recorded_stands.ensures.queued goes.come.first goes.now goes.come.happenings number goes.come.begins goes.come.runs among in
-    (so.0, subst (λ a. number ≤ length (taken a.kept)) (sym goes.is.surrounds) so.1)
+    (so.0, subst (λ a. number ≤ last_number a.kept) (sym goes.is.surrounds) so.1)
 
 pub returns-clause-recorded : goal.returns-clause-recorded
 returns-clause-recorded g c = λ world m after old new call number most wire left it may.

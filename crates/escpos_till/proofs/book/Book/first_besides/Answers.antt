@@ -1,5 +1,5 @@
 -- The first receipt that waits but for one.
-use Rattle.std.proofs.Common.{◌-◌, List, ap, slice_get, sym, ◌∙◌, subst}
+use Rattle.std.proofs.Common.{◌+◌, ◌-◌, List, ap, slice_get, sym, ◌∙◌, subst, arith}
 use Rattle.escpos_till.specs.declared.state.ReceiptState.{ReceiptState}
 use Rattle.escpos_till.specs.States.{IsFirstBesides, IsFirstWaiting}
 use Rattle.escpos_till.proofs.BookLemmas.{contents_so, others_found}
@@ -21,7 +21,7 @@ waiting_at-requires-clause-contents c =
 pub returns : goal.returns
 returns c = record {
   first = λ entries book follows.
-      let first = subst (λ (ss : List ReceiptState). IsFirstBesides ss (c.args.number - 1) c.first_besides.result) c.deref.ensures.value
-      (subst (λ n. IsFirstBesides c.deref.result.now (n - 1) c.first_besides.result) c.get.ensures.value c.first_besides.ensures) in
+      let first = subst (λ (ss : List ReceiptState). IsFirstBesides ss (c.args.number - (1 + c.args.self.now.earlier)) c.first_besides.result) c.deref.ensures.value
+      (subst (λ n. IsFirstBesides c.deref.result.now n c.first_besides.result) (omega (arith, c.saturating_sub-place.ensures, c.get.ensures.value)) c.first_besides.ensures) in
       others_found c.args.self.now entries c.args.number c.first_besides.result c.waiting_at.result book first follows.0 c.waiting_at.ensures;
 }

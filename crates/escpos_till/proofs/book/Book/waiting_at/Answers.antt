@@ -1,5 +1,5 @@
 -- The receipt at a place.
-use Rattle.std.proofs.Common.{◌≡◌, ◌<◌, ◌∙◌, Some, ap, length, slice_get, sym, subst, refl, arith}
+use Rattle.std.proofs.Common.{◌≡◌, ◌<◌, ◌+◌, ◌∙◌, Some, ap, length, slice_get, sym, subst, refl, arith}
 use Rattle.std.proofs.lemmas.Option.{slice_get_read}
 use Rattle.escpos_till.specs.Contents.{content_with}
 use Rattle.escpos_till.specs.Book.{StandsAt}
@@ -23,7 +23,7 @@ returns c =
     let stands = slice_get_read b.states.items (length b.states.items) c.args.place c.index.result.now refl within c.index.ensures in
     let is = slice_get_read b.contents.items (length b.contents.items) c.args.place c.index-content.result.now refl inside c.index-content.ensures in
     subst (λ text. StandsAt b c.args.place c.unwrap.result (content_with c.index-content.result.now.options text) c.in-Waiting.tried) (sym c.bytes.ensures) (record {
-      number_is = number_is c.new.result c.unwrap.result c.args.place c.new.ensures c.unwrap.ensures;
+      number_is = number_is c.new.result c.unwrap.result (b.earlier + c.args.place + 1) c.new.ensures c.unwrap.ensures;
       waits = stands ∙ ap Some c.in-Waiting.is;
       kept = is;
     })

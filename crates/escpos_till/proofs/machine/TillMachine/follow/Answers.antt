@@ -3,7 +3,7 @@ use Rattle.std.proofs.Common.{◌<◌, ◌++◌, ◌∷◌, [], ap, length, sym,
 use Rattle.escpos_till.specs.Book.{HasRoom, HasTryRoom, IsBookOf}
 use Rattle.escpos_till.specs.Machine.{Suits}
 use Rattle.escpos_till.proofs.EntryLemmas.{ledger-snoc}
-use Rattle.escpos_till.proofs.MachineLemmas.{fits_follows, state_of_taken}
+use Rattle.escpos_till.proofs.MachineLemmas.{fits_follows, state_of_taken, suits_nothing_older}
 use Rattle.escpos_till.proofs.machine.TillMachine.follow.Goals as goal
 
 pub following-requires : goal.following-requires
@@ -26,3 +26,8 @@ invariant_of-self c =
           c.reserve_next.ensures.try_kept n tried due next_is (c.note.ensures.try_room m entry_is (subst HasTryRoom (ap (λ m. m.book) (sym c.self.view_is)) room)))
           c.following.ensures;
     }
+
+pub note-requires-clause-key_room : goal.note-requires-clause-key_room
+note-requires-clause-key_room c number key is =
+    let (entries, book, ledger, fits) = c.requires.fits in
+    absurd (suits_nothing_older c.args.then number key (subst (Suits c.args.then) is fits.1))

@@ -1,0 +1,6 @@
+-- So far nothing is said but keys of an older ledger.
+use Rattle.escpos_till.specs.Renewing.{SaysNothing}
+use Rattle.escpos_till.proofs.renewing.beginning.Given as goal
+
+abbrev pub invariant-loop-keyed : goal.invariant-loop-keyed
+invariant-loop-keyed l = SaysNothing l.last l.new.items
