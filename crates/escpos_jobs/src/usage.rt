@@ -508,7 +508,8 @@ line `memory` says that the program ran out of memory.
 
       With --again N nothing is read: receipt N, whatever became of it, is taken
       once more, with a number of its own. If no receipt N was taken, the line
-      is `refused NotTaken N`.
+      is `refused NotTaken N`; if it was over before the ledger was renewed,
+      `refused Earlier N`.
 
       With --key K, 1 to 64 characters 21 to 7E, a till that lost the answer may
       ask again: if a receipt of the ledger has this key, that is the one. Its
@@ -551,8 +552,9 @@ line `memory` says that the program ran out of memory.
   escpos_cli cancel LEDGER N
       Takes receipt N back: it waits no more, and isn't sent again. `cancelled
       N` says so; if it was sent before, ` tried K` ends that line, since it may
-      be on paper. One that waits no more gives `refused Recorded N` or `refused
-      Cancelled N`, and one that was never taken `refused NotTaken N`. If the
+      be on paper. One that waits no more gives `refused Recorded N`, `refused
+      Cancelled N` or, if it was over before the ledger was renewed, `refused
+      Earlier N`; one that was never taken gives `refused NotTaken N`. If the
       ledger can't be used, the line is that of `ledger`.
 
           $ escpos_cli cancel shop.ledger 2
@@ -572,8 +574,8 @@ line `memory` says that the program ran out of memory.
 
       With --renew a new ledger goes on from it, in the file NEW, which mustn't
       be there yet: it has what waits, the next numbers, and the keys of the last
-      1000 receipts. LEDGER isn't used any more. The line is `renewed W`, where
-      W receipts wait, or `refused Exists` if NEW is there.
+      1000 receipts. LEDGER is `no ledger` from then on. The line is `renewed W`,
+      where W receipts wait, or `refused Exists` if NEW is there.
 
           $ escpos_cli ledger shop.ledger --renew shop-2.ledger
           renewed 0
