@@ -11,13 +11,18 @@ use escpos_till_jobs::{LedgerPath, Ledgers, NewLedgers, NoRenewal, SharedStore};
 use sqlite::{FileFrom, FileStore, Unknown};
 use std::fs::{File, OpenOptions, TryLockError};
 use std::io::ErrorKind;
-use std::time::Duration;
+use std::time::{Duration, Instant};
 use std::{fs, io, thread};
 
 // So often it is tried to open a ledger that is in use, and so long it is waited between: 5 seconds.
 const TURNS: u32 = 2_500;
 
 const TURN_MILLISECONDS: u64 = 2;
+
+// A delivery closes its ledger after so many seconds, and leaves it to others for so many milliseconds, in which one that waits looks for its turn.
+const OPEN_SECONDS: u64 = 1;
+
+const LEFT_MILLISECONDS: u64 = 3 * TURN_MILLISECONDS;
 
 /// Ledgers in files. `Unknown` says that nothing is known of what a file holds before it is opened.
 #[derive(Drop)]
@@ -61,12 +66,21 @@ impl Ledgers<FileLedgerStore> for LedgerFiles<'_> {
     fn close(&mut self, store: FileLedgerStore) {
         let _ = store.into_files();
     }
+
+    // It is open for one job alone, which doesn't wait.
+    fn is_turn_over(&self) -> bool {
+        false
+    }
 }
 
 /// Ledgers in files, for a delivery: from one of them no other delivery is made meanwhile.
 #[derive(Drop)]
 pub struct DeliveredFiles<'r> {
     files: LedgerFiles<'r>,
+    // when the ledger was opened
+    opened: io::Result<Instant>,
+    // it was open for long
+    left: bool,
     // locked as long as it is open
     _line: File,
 }
@@ -76,12 +90,29 @@ impl Ledgers<FileLedgerStore> for DeliveredFiles<'_> {
 
     ghost closed = { λ old store new. new ≡ old };
 
+    // Where it was open for long, it is left to others for a moment first.
     fn open(&mut self, path: &LedgerPath<'_>) -> Result<FileLedgerStore, NoStore> {
-        self.files.open(path)
+        if self.left {
+            thread::sleep(self.files.rt, Duration::from_millis(LEFT_MILLISECONDS));
+        }
+        let store = self.files.open(path)?;
+        self.opened = Instant::now(self.files.rt);
+        Ok(store)
     }
 
     fn close(&mut self, store: FileLedgerStore) {
+        self.left = self.is_turn_over();
         self.files.close(store);
+    }
+
+    fn is_turn_over(&self) -> bool {
+        match &self.opened {
+            Ok(opened) => match opened.elapsed(self.files.rt) {
+                Ok(open) => open.as_secs() >= OPEN_SECONDS,
+                Err(_) => false,
+            },
+            Err(_) => false,
+        }
     }
 }
 
@@ -111,14 +142,24 @@ impl<'r> Ledgers<SharedFileStore<'r>> for SharedFiles<'r> {
     // `InUse` is answered where another delivery is being made from the ledger.
     fn open(&mut self, path: &LedgerPath<'_>) -> Result<SharedFileStore<'r>, NoStore> {
         let line = line_of(self.rt, path.text())?;
-        let files = LedgerFiles::new(self.rt);
-        SharedStore::open(self.rt.alloc(), DeliveredFiles { files, _line: line }, path)
+        let files = DeliveredFiles {
+            files: LedgerFiles::new(self.rt),
+            opened: Instant::now(self.rt),
+            left: false,
+            _line: line,
+        };
+        SharedStore::open(self.rt.alloc(), files, path)
     }
 
     // The ledger is closed where it is open, and then its line.
     fn close(&mut self, store: SharedFileStore<'r>) {
         let mut store = store;
         store.end();
+    }
+
+    // It closes its ledger itself.
+    fn is_turn_over(&self) -> bool {
+        false
     }
 }
 

@@ -1,4 +1,4 @@
--- When a machine goes on with the next receipt over the same link: the one before is printed, and that is to be kept together with the try
+-- What holds where a machine goes on with the next receipt over the same link (nothing here says that it does): the one before is printed, and that is to be kept together with the try
 -- of the next one. Its closing mark has the next mark number, which is also the host's next one, and all that was to be put is put: nothing
 -- else is put before the receipt, and no new opening mark.
 use Rattle.std.specs.Prelude.{ℕ, ◌≡◌, ◌+◌, ◌<◌, Option, Some, None, List, [], ◌∷◌, ◌++◌, length}

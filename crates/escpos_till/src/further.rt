@@ -18,6 +18,7 @@ use crate::copy::CopyLine;
 use crate::entry::Entry;
 use crate::machine::{Due, MARK_COUNT, Stage, Then};
 use crate::number::ReceiptNumber;
+use crate::talking::printed;
 use crate::waiting::WaitingReceipt;
 use escpos_host::{Host, HostState};
 use escpos_receipt::{JsonError, Receipt};
@@ -47,8 +48,8 @@ impl Further {
     }
 }
 
-// A receipt is printed: that is to be kept. If that may be, and the next one may be sent over the same link, it is to be kept with it that
-// the next one is tried.
+// A receipt is printed: that is to be kept. With it, where the caller allows it, the next one can go over the same link and no allocation
+// fails, that the next one is tried. The contract says what holds where it is, and not that it is.
 pub(crate) fn printed_or_further(
     alloc: Global,
     book: &Book,
@@ -61,7 +62,6 @@ pub(crate) fn printed_or_further(
     ensures is { (result ≡ printed number) ⊎ GoesFurther book.now number further.now host.now result }
     ensures may { IsGoingOn result → IsTrue may }
 {
-    let entry = Entry::Recorded { number };
     let due = if may {
         next_due(alloc, book, host, number, further)
     } else {
@@ -69,7 +69,7 @@ pub(crate) fn printed_or_further(
     };
     match due {
         Some(due) => Stage::Keeping {
-            entry,
+            entry: Entry::Recorded { number },
             then: Then::GoOn {
                 recorded: number,
                 tried: Entry::Tried {
@@ -79,10 +79,7 @@ pub(crate) fn printed_or_further(
                 due,
             },
         },
-        None => Stage::Keeping {
-            entry,
-            then: Then::Recorded(number),
-        },
+        None => printed(number),
     }
 }
 

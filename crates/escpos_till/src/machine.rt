@@ -683,7 +683,8 @@ impl TillMachine {
     }
 
     /// Hears bytes of answers up to the first event, and returns how many it took. The others are kept: for as long as it asks for `Put`
-    /// or `Wait` then, it is given them again before any that came later, and else they are dropped.
+    /// or `Wait` then, it is given them again before any that came later, and else they are dropped. Where it asks for `Tell`, `told` is called
+    /// first: otherwise the owner may never be told that a receipt is recorded.
     pub fn came(&mut self, bytes: &[u8]) -> usize
         ensures came { Came self.old.stage bytes.now result self.old self.new }
         ensures within { result ≤ length bytes.now }
@@ -711,7 +712,8 @@ impl TillMachine {
         }
     }
 
-    /// The link has ended, failed, or was waited for as long as may be: where the printer says that it prints nothing, that is told.
+    /// The link has ended, failed, or was waited for as long as may be: where the printer says that it prints nothing, that is told. Where it asks for
+    /// `Tell`, `told` is called first: otherwise the owner isn't told that a receipt is recorded.
     pub fn link_ended(&mut self, why: SendFault)
         ensures { Ended self.old.stage why self.old self.new }
     {

@@ -94,7 +94,7 @@ fn told_of(host: &mut Host, block: AutomaticStatus, talk: Talk, left: u32) -> St
 }
 
 // The receipt is printed: that is to be kept.
-fn printed(number: ReceiptNumber) -> Stage
+pub(crate) fn printed(number: ReceiptNumber) -> Stage
     ensures { result ≡ printed number }
 {
     Stage::Keeping {

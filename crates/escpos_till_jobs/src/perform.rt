@@ -41,6 +41,9 @@ pub trait Ledgers<S> {
     /// Closes a store. What it has kept outlives a crash already.
     fn close(&mut self, store: S)
         ensures { closed self.old store self.new };
+
+    /// Whether the store that is open has been so for long, and is to be closed, so that whoever waits for it has a turn.
+    fn is_turn_over(&self) -> bool;
 }
 
 /// Does what a till asks of a ledger, and returns how it went.

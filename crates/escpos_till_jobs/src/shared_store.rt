@@ -1,6 +1,6 @@
 //! A store that lets go of its ledger between entries, so that others may add some: for a till that delivers.
 //!
-//! The ledger is opened for an entry, and closed again where its printer is waited for. Each time that it is opened, what is found must begin
+//! The ledger is opened for an entry, and closed again where its printer is waited for, and where its turn is over. Each time that it is opened, what is found must begin
 //! with what is known, and go on with entries that others may add; anything else is a failure. How a ledger is opened is left to `Ledgers`.
 
 ghost use Rattle.std.specs.Prelude.{◌≡◌, ◌≢◌, ◌↔◌, ◌⊎◌, ◌++◌, ◌∷◌, [], List, option_map, vec_capacity, vec_len, ◌+◌, ◌≤◌, false, None, Ok, IfOk, IfSome, OnErr, OnOk};
@@ -116,6 +116,22 @@ impl<F: Ledgers<S> + Drop, S: Store + Drop> SharedStore<F, S> {
         }
     }
 
+    // Adds an entry to the store that is open, and another one after it, if one is given: both or neither. Then the ledger is closed, if its turn
+    // is over.
+    fn add_in_turn(&mut self, entry: &Entry, after: Option<&Entry>) -> Result<Appended, StoreFault>
+        requires { self.old.unsure ≡ false }
+        ensures added { OnOk result ((self.new.unsure ≡ false) × (self.new.known ≡ self.old.known ++ added entry.now (option_map (λ e. e.now) after.entry))) }
+        ensures done { IfOk result (λ it. it ≡ appended.Done) }
+        ensures left { OnErr result ((left : List Entry) → SharedLeaves S.faithful S.holds S.leaves self.new left
+            → (left ≡ self.old.known) ⊎ (left ≡ self.old.known ++ added entry.now (option_map (λ e. e.now) after.entry))) }
+    {
+        let came = self.add(entry, after);
+        if came.is_ok() && self.ledgers.is_turn_over() {
+            self.end();
+        }
+        came
+    }
+
     // Adds an entry to the store that is open, and another one after it, if one is given: both or neither.
     fn add(&mut self, entry: &Entry, after: Option<&Entry>) -> Result<Appended, StoreFault>
         requires { self.old.unsure ≡ false }
@@ -209,7 +225,7 @@ impl<F: Ledgers<S> + Drop, S: Store + Drop> Store for SharedStore<F, S> {
             return Err(StoreFault::Failed);
         }
         match self.take() {
-            Ok(None) => self.add(entry, after),
+            Ok(None) => self.add_in_turn(entry, after),
             Ok(Some(others)) => Ok(Appended::Others(others)),
             Err(why) => Err(why),
         }

@@ -25,15 +25,15 @@ fn delivers(
     answers: &[u8],
     told: (Told, usize),
 ) {
-    delivers_over(rt, alloc, ledger, (answers, false), told);
+    delivers_over(rt, alloc, ledger, (answers, (false, false)), told);
 }
 
-// The same over a line that takes bytes at once, or not; its answers are waited for.
+// The same over a line that takes bytes at once, or not, and whose answers come soon, or not.
 fn delivers_over(
     rt: &impl Abort,
     alloc: Global,
     ledger: BusyLedger,
-    (answers, takes_at_once): (&[u8], bool),
+    (answers, watched): (&[u8], (bool, bool)),
     (wanted, entries): (Told, usize),
 ) {
     let (mut sent, mut room) = ([0; 100], [0; 64]);
@@ -41,7 +41,7 @@ fn delivers_over(
     let Ok(store) = SharedStore::open(alloc, ledger, &LedgerPath::new("a")) else {
         panic!(rt; "no store");
     };
-    let line = watched_line_over(answers, &mut sent, (takes_at_once, false));
+    let line = watched_line_over(answers, &mut sent, watched);
     let mut around = Surroundings { store, line };
     let word = Word::Deliver(delivery_to(printer_address()));
     let status = do_with(alloc, &mut around, word, &mut output);
@@ -78,7 +78,19 @@ fn a_receipt_is_taken_meanwhile(rt: HostRuntime) {
 fn a_receipt_is_taken_before_the_answer(rt: HostRuntime) {
     let told = ("recorded 1\nwaiting 2 no link\n", Status::Device);
     let ledger = one_waits(&rt, rt.alloc(), (3, &[Plain::Taken]));
-    delivers_over(&rt, rt.alloc(), ledger, (FIRST, true), (told, 4));
+    delivers_over(&rt, rt.alloc(), ledger, (FIRST, (true, false)), (told, 4));
+}
+
+// A printer that answers at once isn't waited for, so the ledger stays open, and nobody else adds to it. Where its turn is over, they do.
+#[test]
+fn a_receipt_is_taken_once_a_turn_is_over(rt: HostRuntime) {
+    let alone = one_waits(&rt, rt.alloc(), (3, &[Plain::Taken]));
+    let told = ("recorded 1\n", Status::Good);
+    delivers_over(&rt, rt.alloc(), alone, (FIRST, (true, true)), (told, 3));
+    let mut in_turn = one_waits(&rt, rt.alloc(), (3, &[Plain::Taken]));
+    in_turn.has_short_turns = true;
+    let told = ("recorded 1\nwaiting 2 no link\n", Status::Device);
+    delivers_over(&rt, rt.alloc(), in_turn, (FIRST, (true, true)), (told, 4));
 }
 
 // The next mark number is raised before the receipt is tried: its try has the numbers from there on. Or after that.

@@ -21,7 +21,8 @@ use Rattle.escpos_till.specs.declared.store.StoreFault.{StoreFault}
 use Rattle.escpos_till.specs.Machine.{Came, Delivers, Ended, IsStarted, Kept, MachineView, SameEntries, SendsReceipt, Unsure, put, told}
 use Rattle.escpos_till_model.specs.Known.{IsWorld}
 use Rattle.escpos_till.specs.Machine.{IsLinked as Linked}
-use Rattle.escpos_till_model.specs.World.{Begins, Breaks, Calls, Crashes, FitsLine, GoesOnWire, HasCome, Happens, Hears, Idles, IsCopy, Puts, Runs, Starts, Stores, Tells, World, is_printer_event, running, with_entry, with_wire}
+use Rattle.escpos_till.specs.Further.{IsText}
+use Rattle.escpos_till_model.specs.World.{Begins, Breaks, Calls, Crashes, FitsLine, GoesOnWire, HasCome, Happens, Hears, Idles, Puts, Runs, Starts, Stores, Tells, World, is_printer_event, running, with_entry, with_wire}
 use Rattle.escpos_till_model.specs.declared.event.Happening.{Happening}
 use Rattle.escpos_till_model.specs.declared.event.Happening.TheVariants as event
 use Rattle.escpos_till_model.specs.declared.event.NotPossible.{NotPossible}
@@ -230,11 +231,11 @@ crash_by true w v wire view known linked none gone stays =
 crash_by false w v wire view known linked none gone stays =
     crashes_in w v wire view known (λ m was l. absurd (none (λ e. cc e) m (ap (λ x. x.machine) (sym view) ∙ was) l)) (λ free. stays (λ e. cc e))
 
-pub copied : {X Y : Type 0} (r : Result X Y) (openings most : ℕ) (copy : Option (List ℕ)) (further : Bool) (given : Option (List ℕ)) (w new : World) → copy ≡ given → IsCopy given
+pub copied : {X Y : Type 0} (r : Result X Y) (openings most : ℕ) (copy : Option (List ℕ)) (further : Bool) (given : Option (List ℕ)) (w new : World) → copy ≡ given → IsText given
     → OnOk r (Calls (λ m after. Delivers m openings most given further after × FitsLine after.stage) w new)
-    → OnOk r (IsCopy copy × Calls (λ m after. Delivers m openings most copy further after × FitsLine after.stage) w new)
+    → OnOk r (IsText copy × Calls (λ m after. Delivers m openings most copy further after × FitsLine after.stage) w new)
 copied (Ok x) openings most copy further given w new same is called_so =
-    subst (λ c. IsCopy c × Calls (λ m after. Delivers m openings most c further after × FitsLine after.stage) w new) (sym same) (is, called_so)
+    subst (λ c. IsText c × Calls (λ m after. Delivers m openings most c further after × FitsLine after.stage) w new) (sym same) (is, called_so)
 copied (Err y) openings most copy further given w new same is called_so = tt
 
 pub keeps_in : (w v : World) (m after : MachineView) (wire : WireView) (e : Entry) (next : Then) → v ≡ w → IsWorld w → v.machine ≡ Some m → m.stage ≡ stage.Keeping e next

@@ -34,7 +34,8 @@ use Rattle.escpos_till_model.specs.Known.{Accounted, BookMayLag, Holds, IsHostOf
 use Rattle.escpos_till.specs.declared.pause.Pause.{Pause}
 use Rattle.escpos_host.specs.declared.send.SendFault.TheVariants as fault
 use Rattle.escpos_till.specs.declared.machine.Talk.{Talk}
-use Rattle.escpos_till_model.specs.World.{Calls, FitsLine, IsCopy, IsSendable, IsSo, Tells, TellsNews, Wired, World, running}
+use Rattle.escpos_till.specs.Further.{IsText}
+use Rattle.escpos_till_model.specs.World.{Calls, FitsLine, IsSendable, IsSo, Tells, TellsNews, Wired, World, running}
 use Rattle.escpos_till_model.specs.Late.{HasJustBegun, LateAnswers}
 use Rattle.escpos_till_model.proofs.LateLemmas.{drops_late, first_is_least}
 use Rattle.escpos_till_model.proofs.LinesKept.{LineLaws, Right, down_or_up, goes, same_wire, drops_right, drops_hung}
@@ -186,7 +187,7 @@ with_or_without true commands receipt line e = inr e
 with_or_without false commands receipt line e = inl e
 
 -- What is sent of a receipt is a receipt, or one after the line of a copy.
-pub sent_is : (content : Content) (receipt commands : List Command) (copy : Option (List ℕ)) (tried : ℕ) → IsCopy copy → ContentDescribes content receipt → Whole receipt
+pub sent_is : (content : Content) (receipt commands : List Command) (copy : Option (List ℕ)) (tried : ℕ) → IsText copy → ContentDescribes content receipt → Whole receipt
     → commands ≡ sent_of copy tried receipt → IsReceipt content commands
 sent_is content receipt commands None tried is describes whole sent = record { receipt = receipt; describes = describes; whole = whole; sent = inl sent }
 sent_is content receipt commands (Some text) tried is describes whole sent = record {
@@ -217,14 +218,14 @@ first_waits es number tried content first =
     record { here = omega (arith, bounds.0); taken = omega (arith, bounds.1); open_still = place; not_cancelled = cancel }
 
 -- What is due is a receipt of the ledger's.
-pub due_receipt : (kept : List Entry) (copy : Option (List ℕ)) (number : ℕ) (commands : List Command) → IsCopy copy → IsDue kept copy number commands → IsReceiptOf kept number commands
+pub due_receipt : (kept : List Entry) (copy : Option (List ℕ)) (number : ℕ) (commands : List Command) → IsText copy → IsDue kept copy number commands → IsReceiptOf kept number commands
 due_receipt kept copy number commands is first = record {
   content = first.content;
   taken = first_is_taken kept number first.tried first.content first.first;
   receipt = sent_is first.content first.receipt commands copy first.tried is first.describes first.whole first.sent;
 }
 
-pub to_send : (b : Book) (kept : List Entry) (openings most : ℕ) (copy : Option (List ℕ)) (due : Due) → IsBookOf b kept → IsCopy copy → IsNext b openings most copy due
+pub to_send : (b : Book) (kept : List Entry) (openings most : ℕ) (copy : Option (List ℕ)) (due : Due) → IsBookOf b kept → IsText copy → IsNext b openings most copy due
     → IsSendable due.receipt → IsToSend kept due
 to_send b kept openings most copy due book is next fits =
     let first = next.first kept book in
@@ -236,7 +237,7 @@ to_send b kept openings most copy due book is next fits =
       first = first_is_least kept due.number first.tried first.content first.first;
     }
 
-pub delivers : (w new : World) (openings most : ℕ) (copy : Option (List ℕ)) (further : Bool) → IsWorld w → IsCopy copy
+pub delivers : (w new : World) (openings most : ℕ) (copy : Option (List ℕ)) (further : Bool) → IsWorld w → IsText copy
     → Calls (λ m after. Delivers m openings most copy further after × FitsLine after.stage) w new → IsWorld new
 delivers w new openings most copy further known copy_is moves =
     let p = parts w moves.m moves.was known in

@@ -52,7 +52,7 @@ use Rattle.escpos_till_model.specs.Kept.{Hand, IsSent, Reserves}
 use Rattle.escpos_till_model.specs.Known.{Accounted, Holds, IsToSendNext, IsWorld}
 use Rattle.escpos_till_model.specs.Late.{HasJustBegun, LateAnswers}
 use Rattle.escpos_till_model.specs.Receipts.{IsReceiptOf}
-use Rattle.escpos_till_model.specs.World.{Hears, IsCopy, IsSendable, IsSo, Wired, World}
+use Rattle.escpos_till_model.specs.World.{Hears, IsSendable, IsSo, Wired, World}
 use Rattle.escpos_till_model.proofs.LinesKept.{LineLaws, Right, goes, same_wire, drops_right}
 use Rattle.escpos_till_model.proofs.WorldCalls.{Parts, due_receipt, gone_account, gone_begun, whole, parts}
 use Rattle.escpos_till_model.proofs.WorldStore.{talking_book, talking_holds}
@@ -587,10 +587,6 @@ answered_parts m after kept w wire talk consumed host place x same holds =
       holds = subst (λ h. Holds kept (Some x.held) (with_earlier x.earlier h) after.stage) (sym same) holds;
     }
 
-text_is : (copy : Option (List ℕ)) → IsText copy → IsCopy copy
-text_is None text = tt
-text_is (Some copy) text = text
-
 -- What may be sent over the same link.
 pub to_send_next : LineLaws → (kept : List Entry) (b : Book) (number : ℕ) (further : Option Further) (earlier : List (List Command)) (host : HostView) (due : Due) → IsBookOf b kept
     → MayFollow kept (entry.Recorded number) → IsAfter b number further host due
@@ -601,7 +597,7 @@ to_send_next laws kept b number further earlier host due book follows after =
     let waits = after.waits kept book follows in
     let free : next_free more ≡ b.next = next_after_recorded kept number ∙ sym book.next in
     record {
-      receipt = due_receipt more after.how.copy due.number due.receipt (text_is after.how.copy after.text) is;
+      receipt = due_receipt more after.how.copy due.number due.receipt after.text is;
       fits = record { fits = laws.fitting due.receipt after.whole after.commands; no_real_time = after.whole.no_real_time };
       tried_is = ap (λ n. entry.Tried due.number (n + 1)) (sym free);
       follows = (waits, omega (arith, free));

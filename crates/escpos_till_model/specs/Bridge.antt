@@ -12,7 +12,8 @@ use Rattle.escpos_till.specs.Machine.{MachineView, after_note}
 use Rattle.escpos_till.specs.Surroundings.{Did}
 use Rattle.escpos_till_model.specs.Around.{Around, CrashesTo, DoesInTime, IsAround, around}
 use Rattle.escpos_till_model.specs.declared.event.Happening.{Happening}
-use Rattle.escpos_till_model.specs.World.{Begins, HasCome, IsCopy, Runs, World}
+use Rattle.escpos_till.specs.Further.{IsText}
+use Rattle.escpos_till_model.specs.World.{Begins, HasCome, Runs, World}
 
 -- ## The store
 
@@ -64,7 +65,7 @@ notes_of (d ∷ ds) = notes_of ds
 
 -- The text for a copy, if the call has one, is such a text.
 abbrev pub MayCall : Call → Type 0
-MayCall (Deliver openings most copy further) = IsCopy copy
+MayCall (Deliver openings most copy further) = IsText copy
 MayCall call = Unit {0}
 
 -- The call has an entry kept, and no more: nothing is done over the line for it.

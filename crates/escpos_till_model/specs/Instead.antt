@@ -15,7 +15,8 @@ use Rattle.escpos_till_model.specs.declared.event.Happening.{Happening}
 use Rattle.escpos_till_model.specs.declared.event.Happening.TheVariants as event
 use Rattle.escpos_till_model.specs.declared.event.NotPossible.{NotPossible}
 use Rattle.escpos_till_model.specs.declared.event.NotPossible.TheVariants as why
-use Rattle.escpos_till_model.specs.World.{Happens, IsCopy, Runs, World, is_printer_event}
+use Rattle.escpos_till.specs.Further.{IsText}
+use Rattle.escpos_till_model.specs.World.{Happens, Runs, World, is_printer_event}
 
 -- The machine asks for an entry to be kept, or two together, for bytes to be put or answers to be heard, or for its owner to be told.
 abbrev pub KeepsEntry : Stage → Type 0
@@ -82,7 +83,7 @@ LeftByMemory e w new =
 
 -- It would be a delivery with a text that is none for the line of a copy; it would happen at another end than the printer's.
 abbrev pub HasNoCopy : Happening → Type 0
-HasNoCopy (event.Deliver openings most copy further) = ¬ IsCopy copy
+HasNoCopy (event.Deliver openings most copy further) = ¬ IsText copy
 HasNoCopy e = ⊥
 
 abbrev pub IsElsewhere : Happening → Type 0

@@ -31,7 +31,7 @@ use Rattle.escpos_till.specs.declared.machine.Then.{Then}
 use Rattle.escpos_till.specs.declared.machine.TillNote.{TillNote}
 use Rattle.escpos_till.specs.declared.machine.TillNote.TheVariants as note
 use Rattle.escpos_till.specs.Book.{IsBookOf}
-use Rattle.escpos_till.specs.Copy.{IsCopyText}
+use Rattle.escpos_till.specs.Further.{IsText}
 use Rattle.escpos_till.specs.Entries.{IsLedger, cancelled, last_number, next_free, recorded, times_tried}
 use Rattle.escpos_till.specs.Learning.{AreOthers, FailsToLearn, LearnsAll}
 use Rattle.escpos_till.specs.Machine.{Came, Cancels, Delivers, Ended, IsStarted, Kept, MachineView, Queues, Raises, SameEntries, Unsure, connected, entry_with, hung_up, news_of, not_connected, put, told}
@@ -229,17 +229,12 @@ pub record Crashes (w : World) (new : World) : Type 0 where
   pub link : (m : MachineView) → w.machine ≡ Some m → m.host.phase ≢ Down → wire ≡ given_up w.wire
   pub is : new ≡ off w wire
 
--- The text for the line of a copy, if there is one, is such a text.
-abbrev pub IsCopy : Option (List ℕ) → Type 0
-IsCopy None = Unit {0}
-IsCopy (Some text) = IsCopyText text
-
 abbrev pub Happens : World → Happening → World → Type 0
 Happens w event.Start new = Starts w new
 Happens w (event.Queue content key) new = Calls (λ m after. Queues m content key after) w new
 Happens w (event.Raise first) new = Calls (λ m after. Raises m first after) w new
 Happens w (event.Cancel number) new = Calls (λ m after. Cancels m number after) w new
-Happens w (event.Deliver openings most copy further) new = IsCopy copy × Calls (λ m after. Delivers m openings most copy further after × FitsLine after.stage) w new
+Happens w (event.Deliver openings most copy further) new = IsText copy × Calls (λ m after. Delivers m openings most copy further after × FitsLine after.stage) w new
 Happens w event.Refuse new = Calls SameEntries w new
 Happens w event.Keep new = Stores (λ m after. Kept m.stage m after) with_entry w new
 Happens w (event.FailWith why) new = Stores (λ m after. Unsure m.stage why m after) with_entry w new

@@ -24,6 +24,7 @@ fn ledger(rt: &impl Abort, alloc: Global) -> BusyLedger {
         at: 2,
         is_lost: false,
         opened: 0,
+        has_short_turns: false,
     }
 }
 

@@ -203,6 +203,10 @@ impl Ledgers<MemoryStore> for OneLedger {
     fn close(&mut self, store: MemoryStore) {
         self.store = Some(store);
     }
+
+    fn is_turn_over(&self) -> bool {
+        false
+    }
 }
 
 // A new ledger may be written at one path, in memory. At any other path there is one already.
@@ -277,6 +281,8 @@ pub struct BusyLedger {
     pub at: usize,
     pub is_lost: bool,
     pub opened: usize,
+    // it is closed after each entry
+    pub has_short_turns: bool,
 }
 
 // It has these entries, and others add those.
@@ -296,6 +302,7 @@ pub fn busy(
         at,
         is_lost: false,
         opened: 0,
+        has_short_turns: false,
     }
 }
 
@@ -330,6 +337,10 @@ impl Ledgers<MemoryStore> for BusyLedger {
 
     fn close(&mut self, store: MemoryStore) {
         self.store = Some(store);
+    }
+
+    fn is_turn_over(&self) -> bool {
+        self.has_short_turns
     }
 }
 
