@@ -1,11 +1,12 @@
 -- The values of a till's task.
-use Rattle.std.proofs.Common.{◌≡◌, ◌∙◌, ℕ, List, Option, Some, None, Result, Ok, Err, refl, sym, ap, subst, codes}
+use Rattle.std.proofs.Common.{◌≡◌, ◌≢◌, ◌∙◌, ℕ, List, Option, Some, None, Result, Ok, Err, refl, sym, ap, subst, codes, arith}
 use Rattle.std.specs.Prelude.{◌<◌, ◌≤◌, IfSome, IsSomeAnd}
 use Rattle.clap.specs.Words.{Row, first_of, one_of}
 use Rattle.escpos_arguments.specs.declared.arguments.TheConstants.{OPENINGS, MOST_OPENINGS, PATIENCE}
 use Rattle.escpos_arguments.specs.Arguments.{IsNumberOr, IsWait}
 use Rattle.escpos_arguments.specs.ClapAnswers.{IsNumberIn}
 use Rattle.escpos_arguments.proofs.TaskValues.{no_error, number_in}
+use Rattle.escpos_arguments.proofs.WidthValues.{head}
 use Rattle.escpos_arguments.specs.TillArguments.{AsksTillBy, IsTillInRange}
 use Rattle.escpos_command.specs.Digits.{mark_count}
 use Rattle.escpos_till.specs.Copy.{IsCopyText}
@@ -129,6 +130,12 @@ taken_task rows (listing path first) ledger a n s copy wait asks range l b m p k
 
 -- ## A ledger that is renewed, or listed
 
+-- The two names have as many letters.
+cancels_no_ledger : codes "ledger" ≢ codes "cancel"
+cancels_no_ledger same =
+    let letters = ap head same in
+    absurd (omega (arith, letters))
+
 pub taken_renewal : (rows : List Row) (task : TillTask) (ledger new : List ℕ) (r : Result TillTask NoTask) → AsksTillBy (codes "ledger") rows task → first_of (codes "renew") rows ≡ Some new
     → ((path : List ℕ) → first_of (codes "ledger") rows ≡ Some path → ledger ≡ path) → (IsNumberIn (one_of (codes "first") rows) None → r ≡ Ok (Renew ledger new)) → r ≡ Ok task
 taken_renewal rows (Queue path options key) ledger new r asks is same taken = let bad = asks.0 in absurd cc
@@ -136,7 +143,7 @@ taken_renewal rows (QueueRaw path width key) ledger new r asks is same taken = l
 taken_renewal rows (QueueAgain path number) ledger new r asks is same taken = let bad = asks.0 in absurd cc
 taken_renewal rows (Deliver path d) ledger new r asks is same taken = let bad = asks.0 in absurd cc
 taken_renewal rows (DeliverWithin path d wait) ledger new r asks is same taken = let bad = asks.0 in absurd cc
-taken_renewal rows (Cancel path number) ledger new r asks is same taken = let bad = asks.0 in absurd cc
+taken_renewal rows (Cancel path number) ledger new r asks is same taken = absurd (cancels_no_ledger asks.0)
 taken_renewal rows (Renew path other) ledger new r asks is same taken =
     let (name, is_path, is_other, none) = asks in
     let one : new ≡ other = (let both : Some new ≡ Some other = sym is ∙ is_other in cc) in
@@ -153,7 +160,7 @@ taken_listing rows (QueueRaw path width key) ledger r asks range is same taken =
 taken_listing rows (QueueAgain path number) ledger r asks range is same taken = let bad = asks.0 in absurd cc
 taken_listing rows (Deliver path d) ledger r asks range is same taken = let bad = asks.0 in absurd cc
 taken_listing rows (DeliverWithin path d wait) ledger r asks range is same taken = let bad = asks.0 in absurd cc
-taken_listing rows (Cancel path number) ledger r asks range is same taken = let bad = asks.0 in absurd cc
+taken_listing rows (Cancel path number) ledger r asks range is same taken = absurd (cancels_no_ledger asks.0)
 taken_listing rows (Renew path other) ledger r asks range is same taken =
     let (name, is_path, is_other, none) = asks in
     absurd (let bad : Some other ≡ None = sym is_other ∙ is in cc)

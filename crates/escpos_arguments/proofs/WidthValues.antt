@@ -41,7 +41,7 @@ width_refused rows r why is taken width h = no_error r width why (taken width h.
 abbrev pub SaysWidth : Text → Type 0
 SaysWidth name = (name ≢ codes "check") × (name ≢ codes "encode") × (name ≢ codes "send") × (name ≢ codes "status")
 
-abbrev head : List ℕ → ℕ
+abbrev pub head : List ℕ → ℕ
 head bytes = get_or bytes 0 0
 
 abbrev second : List ℕ → ℕ

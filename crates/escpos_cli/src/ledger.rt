@@ -86,9 +86,9 @@ pub struct DeliveredFiles<'r> {
 }
 
 impl Ledgers<FileLedgerStore> for DeliveredFiles<'_> {
-    ghost opened = { λ old path result new. new ≡ old };
+    ghost opened = { λ old path result new. new.files ≡ old.files };
 
-    ghost closed = { λ old store new. new ≡ old };
+    ghost closed = { λ old store new. new.files ≡ old.files };
 
     // Where it was open for long, it is left to others for a moment first.
     fn open(&mut self, path: &LedgerPath<'_>) -> Result<FileLedgerStore, NoStore> {

@@ -1,5 +1,4 @@
 -- A new ledger is given, or none is.
-use Rattle.std.proofs.Common.{◌∙◌, refl, sym}
 use Rattle.clap.specs.Words.{found_of, rows_of}
 use Rattle.escpos_arguments.proofs.TaskValues.{one_result}
 use Rattle.escpos_arguments.proofs.TillValues.{taken_listing, taken_renewal}
