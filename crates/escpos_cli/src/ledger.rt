@@ -169,6 +169,8 @@ pub struct NewFiles<'r> {
     rt: &'r HostRuntime,
     // where the ledger is that is renewed
     old: &'r str,
+    // the new ledger's line, which is locked so that no two renewals write one draft
+    line: Option<File>,
 }
 
 impl<'r> NewFiles<'r> {
@@ -176,7 +178,11 @@ impl<'r> NewFiles<'r> {
     pub fn new(rt: &'r HostRuntime, old: &'r str) -> Self
         ensures { result.rt.now ≡ rt.now }
     {
-        NewFiles { rt, old }
+        NewFiles {
+            rt,
+            old,
+            line: None,
+        }
     }
 
     // Whether there is a file at a path, or a ledger's log beside it.
@@ -231,11 +237,19 @@ impl<'r> NewFiles<'r> {
 }
 
 impl NewLedgers<FileLedgerStore> for NewFiles<'_> {
-    ghost begun = { λ old path result new. new ≡ old };
+    ghost begun = { λ old path result new. (new.rt ≡ old.rt) × (new.old ≡ old.old) };
 
     ghost finished = { λ old store path result new. new ≡ old };
 
     fn begin(&mut self, path: &LedgerPath<'_>) -> Result<FileLedgerStore, NoRenewal> {
+        // where the old ledger has that path, its line is locked already
+        if let Ok(true) = self.is_taken(path.text()) {
+            return Err(NoRenewal::Exists);
+        }
+        match line_of(self.rt, path.text()) {
+            Ok(line) => self.line = Some(line),
+            Err(why) => return Err(NoRenewal::NoStore(why)),
+        }
         match self.draft(path.text()) {
             Ok(Some(draft)) => LedgerFiles::new(self.rt)
                 .open(&LedgerPath::new(draft.as_str()))
