@@ -72,20 +72,7 @@ fn perform_word<R: ByteIn, W: ByteOut>(
 {
     if is_till_word(word) {
         let task = till_task_of(rt.alloc(), words)?;
-        let mut ledgers = LedgerFiles::new(rt);
-        let mut shared = SharedFiles::new(rt);
-        let mut news = NewFiles::new(rt, renewed_path(&task));
-        let mut lines = NetworkLines::new(rt);
-        return Ok(perform_till(
-            rt.alloc(),
-            &mut ledgers,
-            &mut shared,
-            &mut news,
-            &mut lines,
-            task,
-            input,
-            output,
-        ));
+        return Ok(perform_task(rt, task, input, output));
     }
     if is_probe_word(word) {
         let task = probe_task_of(rt.alloc(), words)?;
@@ -97,6 +84,31 @@ fn perform_word<R: ByteIn, W: ByteOut>(
     }
     let task = task_of(rt.alloc(), words)?;
     Ok(perform(rt, rt.alloc(), Ok(task), input, output))
+}
+
+// Does what a till asks for, with ledgers in files and printers that can be reached.
+fn perform_task<R: ByteIn, W: ByteOut>(
+    rt: &HostRuntime,
+    task: TillTask<'_>,
+    input: &mut R,
+    output: &mut W,
+) -> Status
+    ensures not_hidden { result ≢ Status.Device → ¬ IsTrue (W.failed output.old) → ¬ IsTrue (W.failed output.new) }
+{
+    let mut ledgers = LedgerFiles::new(rt);
+    let mut shared = SharedFiles::new(rt);
+    let mut news = NewFiles::new(rt, renewed_path(&task));
+    let mut lines = NetworkLines::new(rt);
+    perform_till(
+        rt.alloc(),
+        &mut ledgers,
+        &mut shared,
+        &mut news,
+        &mut lines,
+        task,
+        input,
+        output,
+    )
 }
 
 // Where the ledger is that a task renews; nowhere for another task.
