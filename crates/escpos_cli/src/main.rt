@@ -24,7 +24,8 @@ pub use escpos_jobs::{
     check, draw, emulate, encode, loop_link, perform, play, render, send, status, task,
 };
 use escpos_probe::probe;
-use escpos_till_jobs::{NetworkLines, TillTask, perform_till};
+use escpos_till::PrinterLine;
+use escpos_till_jobs::{Lines, NetworkLines, TillTask, perform_till};
 use std::process::ExitCode;
 use std::{env, io};
 
@@ -95,16 +96,29 @@ fn perform_task<R: ByteIn, W: ByteOut>(
 ) -> Status
     ensures not_hidden { result ≢ Status.Device → ¬ IsTrue (W.failed output.old) → ¬ IsTrue (W.failed output.new) }
 {
+    let mut lines = NetworkLines::new(rt);
+    perform_over(rt, &mut lines, task, input, output)
+}
+
+// The same over any lines. The prover takes longer over `perform_till` the more of its types it knows.
+fn perform_over<L: PrinterLine + Drop, P: Lines<L>, R: ByteIn, W: ByteOut>(
+    rt: &HostRuntime,
+    lines: &mut P,
+    task: TillTask<'_>,
+    input: &mut R,
+    output: &mut W,
+) -> Status
+    ensures not_hidden { result ≢ Status.Device → ¬ IsTrue (W.failed output.old) → ¬ IsTrue (W.failed output.new) }
+{
     let mut ledgers = LedgerFiles::new(rt);
     let mut shared = SharedFiles::new(rt);
     let mut news = NewFiles::new(rt, renewed_path(&task));
-    let mut lines = NetworkLines::new(rt);
     perform_till(
         rt.alloc(),
         &mut ledgers,
         &mut shared,
         &mut news,
-        &mut lines,
+        lines,
         task,
         input,
         output,
