@@ -314,7 +314,7 @@ KOLATENNIS_API int kolatennis_printer_tear_off(kolatennis_printer *printer);
  * Crashes. kolatennis_till_appended(till, true) may be called only once the entry would outlive a crash, in a file after fsync (for the
  * first entry of a new file, of its folder too). No byte of a receipt goes out before an entry says that it is tried, with the mark
  * numbers that its link uses; a receipt is recorded only once the printer has said that it is printed. Each try takes as many numbers as it
- * puts opening marks, and one; there are 1,679,616 in all, so wait a while before the same receipt is tried again.
+ * puts opening marks, and one; at most 1,679,616 may be tried since the last record, so wait a while before the same receipt is tried again.
  *
  * Bytes. kolatennis_till_came may take less than it is given. While the till asks for ASK_PUT or ASK_WAIT, the others must be given
  * again, before any that come later; once it asks for anything else they are of no use.

@@ -592,7 +592,9 @@ static void holds_no_printer(void) {
 static const char HI_RECEIPT[] = "[{\"line\":\"Hi\"}]";
 #define HI_LINE "queued 0200005b7b226c696e65223a224869227d5d\n"
 #define TRIED_LINE "tried 000000000000000100000004\n"
-#define RECORDED_LINE "recorded 0000000000000001\n"
+#define RECORDED_LINE "recorded 000000000000000100000004\n"
+/* as lines of before say it */
+#define RECORDED_BEFORE "recorded 0000000000000001\n"
 
 static int queues(kolatennis_till *till, const char *json, uint32_t *reason, size_t *at) {
     return CALL(kolatennis_till_queue(till, NULL, bytes(json), strlen(json), reason, at));
@@ -710,7 +712,7 @@ static void takes_a_receipt(void) {
     APPENDS(&till, "queued 00903f5b7b226c696e65223a225c7536663232227d5d\n");
     NOTES(&till, QUEUED, 2, 0);
     IS(CALL(kolatennis_till_raise(&till, 36, &reason, &next)) == KOLATENNIS_STATUS_GOOD && reason == 0 && next == 0);
-    APPENDS(&till, "raised 00000024\n");
+    APPENDS(&till, "raised 0000002400000000\n");
     NOTES(&till, RAISED, 0, 0);
     IS(CALL(kolatennis_till_raise(&till, 35, &reason, &next)) == KOLATENNIS_STATUS_REFUSED && reason == KOLATENNIS_TILL_MARK_REUSED && next == 36);
     IS(CALL(kolatennis_till_raise(&till, 1679615, &reason, &next)) == KOLATENNIS_STATUS_REFUSED && reason == KOLATENNIS_TILL_MARK_TOO_HIGH && next == 1679614);
@@ -773,7 +775,7 @@ static void takes_keys(void) {
     /* a key whose receipt never came is void: the next receipt hasn't got it */
     IS(opens(&till, HI_LINE KEY_LINE, &reason, &at) == KOLATENNIS_STATUS_GOOD);
     IS(queues(&till, HI_RECEIPT, &reason, &at) == KOLATENNIS_STATUS_GOOD);
-    APPENDS(&till, "raised 00000000\n");
+    APPENDS(&till, "raised 0000000000000000\n");
     APPENDS(&till, HI_LINE);
     NOTES(&till, QUEUED, 2, 0);
     IS(queues_with(&till, "sale-7", &reason, &at) == KOLATENNIS_STATUS_GOOD);
@@ -928,6 +930,8 @@ static const struct damaged DAMAGED[] = {
     {HI_LINE "tried 00000000000000010000000", 1}, {HI_LINE "tried 000000000000000100000004", 1}, {HI_LINE "tried 000000000000000000000004\n", 1},
     {HI_LINE "tried 000000000000000200000004\n" HI_LINE, 1}, {HI_LINE "tried 000000000000000100000000\n", 1}, {HI_LINE "tried 0000000000000001\n", 1},
     {HI_LINE RECORDED_LINE, 1}, {HI_LINE TRIED_LINE TRIED_LINE, 2}, {HI_LINE TRIED_LINE RECORDED_LINE RECORDED_LINE HI_LINE "x\n", 3},
+    {HI_LINE RECORDED_BEFORE, 1}, {HI_LINE TRIED_LINE "recorded 00000000000000010000\n", 2}, {HI_LINE TRIED_LINE "recorded 000000000000000100000005\n", 2},
+    {HI_LINE TRIED_LINE "raised 0000000500000005\n", 2}, {"raised 0000000300000002\n", 0}, {"raised 00000003000000\n", 0}, {"raised 000000030000000300\n", 0},
     {HI_LINE TRIED_LINE "raised 00000003\n", 2}, {"raised 0000003\n", 0}, {"raised 000000003\n", 0}, {RECORDED_LINE, 0}, {"recorded 00000001\n", 0},
     {HI_LINE HI_LINE HI_LINE HI_LINE HI_LINE HI_LINE "recorded 0000000000000006\n" HI_LINE HI_LINE, 6},
 };
@@ -944,6 +948,9 @@ static void opens_entries(void) {
     }
     IS(opens(&till, HI_LINE TRIED_LINE RECORDED_LINE "raised 00000010\n" HI_LINE, &reason, &at) == KOLATENNIS_STATUS_GOOD && reason == 0 && at == KOLATENNIS_NO_PLACE);
     knows(&till, 2, 16, KOLATENNIS_STANDS_RECORDED, 0);
+    kolatennis_till_free(&till);
+    IS(opens(&till, HI_LINE TRIED_LINE RECORDED_BEFORE "raised 0000001000000010\n", &reason, &at) == KOLATENNIS_STATUS_GOOD);
+    knows(&till, 1, 16, KOLATENNIS_STANDS_RECORDED, 0);
     kolatennis_till_free(&till);
     IS(opens(&till, "raised 0019A100\n" HI_LINE, &reason, &at) == KOLATENNIS_STATUS_GOOD);
     IS(delivers(&till, "", &reason, &at) == KOLATENNIS_STATUS_REFUSED && reason == KOLATENNIS_HOST_MARKS_USED_UP && at == KOLATENNIS_NO_PLACE);

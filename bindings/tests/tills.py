@@ -476,7 +476,7 @@ def is_killed(rounds, program, till, folder):
             lines = entries(run.file) if os.path.exists(run.file) else []
             assert lines[: len(kept)] == kept, f"round {turn}: lost {kept[len(lines):]}"
             for number in re.findall("^recorded ([0-9]+)\n", out, re.MULTILINE):
-                assert b"recorded %016x\n" % int(number) in lines, f"round {turn}: recorded {number}"
+                assert any(line.startswith(b"recorded %016x" % int(number)) for line in lines), f"round {turn}: recorded {number}"
             kept = lines
         while (status := Run(till, folder, wire.port, receipt=os.devnull).process.wait(60)) == MAY_BE_PRINTED and given < 20:
             given += 1

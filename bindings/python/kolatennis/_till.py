@@ -68,7 +68,7 @@ class Till(_Held):
     row left Hi
     feed 1
     >>> kept
-    [b'queued 0200005b7b226c696e65223a20224869227d5d\\n', b'tried 000000000000000100000004\\n', b'recorded 0000000000000001\\n']
+    [b'queued 0200005b7b226c696e65223a20224869227d5d\\n', b'tried 000000000000000100000004\\n', b'recorded 000000000000000100000004\\n']
     >>> again = Till(b"".join(kept))
     >>> again.state(1), again.receipts, again.next_mark
     (Standing(kind='recorded', count=0), 1, 4)

@@ -8,7 +8,6 @@ use Rattle.escpos_arguments.specs.ClapAnswers.{IsNumberIn}
 use Rattle.escpos_arguments.proofs.TaskValues.{no_error, number_in}
 use Rattle.escpos_arguments.proofs.WidthValues.{head}
 use Rattle.escpos_arguments.specs.TillArguments.{AsksTillBy, IsTillInRange}
-use Rattle.escpos_command.specs.Digits.{mark_count}
 use Rattle.escpos_till.specs.Copy.{IsCopyText}
 use Rattle.escpos_till.specs.Keys.{IsKey}
 use Rattle.escpos_jobs.specs.Address.{IsAddress}
@@ -152,18 +151,18 @@ taken_renewal rows (listing path first) ledger new r asks is same taken =
     let (name, is_path, none, number) = asks in
     absurd (let bad : Some new ≡ None = sym is ∙ none in cc)
 
-pub taken_listing : (rows : List Row) (task : TillTask) (ledger : List ℕ) (r : Result TillTask NoTask) → AsksTillBy (codes "ledger") rows task → IsTillInRange task → first_of (codes "renew") rows ≡ None
+pub taken_listing : (rows : List Row) (task : TillTask) (ledger : List ℕ) (r : Result TillTask NoTask) → AsksTillBy (codes "ledger") rows task → first_of (codes "renew") rows ≡ None
     → ((path : List ℕ) → first_of (codes "ledger") rows ≡ Some path → ledger ≡ path)
-    → ((first : Option ℕ) → IsNumberIn (one_of (codes "first") rows) first → IfSome first (λ n. n < mark_count) → r ≡ Ok (listing ledger first)) → r ≡ Ok task
-taken_listing rows (Queue path options key) ledger r asks range is same taken = let bad = asks.0 in absurd cc
-taken_listing rows (QueueRaw path width key) ledger r asks range is same taken = let bad = asks.0 in absurd cc
-taken_listing rows (QueueAgain path number) ledger r asks range is same taken = let bad = asks.0 in absurd cc
-taken_listing rows (Deliver path d) ledger r asks range is same taken = let bad = asks.0 in absurd cc
-taken_listing rows (DeliverWithin path d wait) ledger r asks range is same taken = let bad = asks.0 in absurd cc
-taken_listing rows (Cancel path number) ledger r asks range is same taken = absurd (cancels_no_ledger asks.0)
-taken_listing rows (Renew path other) ledger r asks range is same taken =
+    → ((first : Option ℕ) → IsNumberIn (one_of (codes "first") rows) first → r ≡ Ok (listing ledger first)) → r ≡ Ok task
+taken_listing rows (Queue path options key) ledger r asks is same taken = let bad = asks.0 in absurd cc
+taken_listing rows (QueueRaw path width key) ledger r asks is same taken = let bad = asks.0 in absurd cc
+taken_listing rows (QueueAgain path number) ledger r asks is same taken = let bad = asks.0 in absurd cc
+taken_listing rows (Deliver path d) ledger r asks is same taken = let bad = asks.0 in absurd cc
+taken_listing rows (DeliverWithin path d wait) ledger r asks is same taken = let bad = asks.0 in absurd cc
+taken_listing rows (Cancel path number) ledger r asks is same taken = absurd (cancels_no_ledger asks.0)
+taken_listing rows (Renew path other) ledger r asks is same taken =
     let (name, is_path, is_other, none) = asks in
     absurd (let bad : Some other ≡ None = sym is_other ∙ is in cc)
-taken_listing rows (listing path first) ledger r asks range is same taken =
+taken_listing rows (listing path first) ledger r asks is same taken =
     let (name, is_path, none, number) = asks in
-    taken first number range ∙ ap (λ l. Ok (listing l first)) (same path is_path)
+    taken first number ∙ ap (λ l. Ok (listing l first)) (same path is_path)

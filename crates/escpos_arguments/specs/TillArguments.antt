@@ -3,7 +3,6 @@ use Rattle.std.specs.Prelude.{◌≡◌, ◌<◌, ◌≤◌, List, [], ◌∷◌
 use Rattle.clap.specs.Words.{App, Row, Rule, Shape, Text, first_of, new_app, new_rule, one_of, with_rule, with_subcommand}
 use Rattle.clap.specs.Simple.{on_top}
 use Rattle.clap.specs.declared.builder.action.ArgAction.TheVariants.{Set}
-use Rattle.escpos_command.specs.Digits.{mark_count}
 use Rattle.escpos_command.specs.LineWidths.{is_line_width}
 use Rattle.escpos_command.specs.declared.line_width.TheConstants.{USUAL_LINE_DOTS}
 use Rattle.escpos_arguments.specs.declared.arguments.TheConstants.{OPENINGS, MOST_OPENINGS, PATIENCE}
@@ -81,7 +80,7 @@ IsTillInRange (Deliver ledger delivery) = (1 ≤ delivery.openings) × (delivery
 IsTillInRange (DeliverWithin ledger delivery wait) = (1 ≤ delivery.openings) × (delivery.openings ≤ MOST_OPENINGS) × IsWait delivery.patience × IfSome delivery.copy IsCopyText × IsWait wait
 IsTillInRange (Cancel ledger number) = 0 < number
 IsTillInRange (Renew ledger new) = Unit {0}
-IsTillInRange (listing ledger first) = IfSome first (λ n. n < mark_count)
+IsTillInRange (listing ledger first) = Unit {0}
 
 -- ---- the till's arguments, as `clap` reads them
 

@@ -2,7 +2,6 @@
 
 ghost use Rattle.std.specs.Prelude.{◌≡◌, ◌≢◌, ◌⊎◌, ◌≤◌, ◌<◌, ℕ, Err, None, Ok, Option, Some, [], ◌∷◌, Contains, IfErr, IfOk, IfSome, IsSomeAnd, IsTrue, codes, false, map, ◌↔◌};
 ghost use Rattle.clap.specs.Words.{HasKind, IsAmong, Text, app_of, fault_of, first_of, found_of, kind_of, one_of, rows_of, rule_of, subcommand_of, subcommand_rows_of};
-ghost use Rattle.escpos_command.specs.Digits.{mark_count};
 ghost use Rattle.escpos_till.specs.Copy.{IsCopyText};
 ghost use Rattle.escpos_till_jobs.specs.declared.task.TillTask.{TillTask};
 ghost use Rattle.escpos_arguments.specs.ClapAnswers.{IsNumber, IsNumberIn};
@@ -15,7 +14,6 @@ use crate::arguments::{
 use crate::queue::queue_asked;
 use clap::error::ErrorKind;
 use clap::{Arg, ArgAction, ArgMatches, Command};
-use escpos_command::MarkId;
 use escpos_jobs::task::NoTask;
 use escpos_till::{CopyText, ReceiptNumber};
 use escpos_till_jobs::{Delivery, LedgerPath, TillTask};
@@ -128,13 +126,12 @@ fn ledger_asked<'a>(given: &ArgMatches<'a>) -> Result<TillTask<'a>, NoTask>
 
 // The task to list where the receipts of a ledger stand.
 fn listing_asked<'a>(given: &ArgMatches<'a>, ledger: LedgerPath<'a>) -> Result<TillTask<'a>, NoTask>
-    ensures asks { IfOk result (λ task. (first : Option ℕ) × (task ≡ TillTask.List ledger.entry first) × IsNumberIn (one_of (codes "first") (rows_of (found_of given.now))) first
-        × IfSome first (λ n. n < mark_count)) }
-    ensures taken { (first : Option ℕ) → IsNumberIn (one_of (codes "first") (rows_of (found_of given.now))) first → IfSome first (λ n. n < mark_count)
+    ensures asks { IfOk result (λ task. (first : Option ℕ) × (task ≡ TillTask.List ledger.entry first) × IsNumberIn (one_of (codes "first") (rows_of (found_of given.now))) first) }
+    ensures taken { (first : Option ℕ) → IsNumberIn (one_of (codes "first") (rows_of (found_of given.now))) first
         → result ≡ Ok (TillTask.List ledger.entry first) }
     ensures usage { IfErr result (λ why. why ≡ NoTask.Usage) }
 {
-    let first = first_given(given)?;
+    let first = number_given(given, "first")?;
     Ok(TillTask::List { ledger, first })
 }
 
@@ -148,7 +145,7 @@ fn renewal_asked<'a>(
     ensures taken { IsNumberIn (one_of (codes "first") (rows_of (found_of given.now))) None → result ≡ Ok (TillTask.Renew ledger.entry new.entry) }
     ensures usage { IfErr result (λ why. why ≡ NoTask.Usage) }
 {
-    match first_given(given)? {
+    match number_given(given, "first")? {
         None => Ok(TillTask::Renew { ledger, new }),
         Some(_) => Err(NoTask::Usage),
     }
@@ -205,23 +202,6 @@ fn receipt_number_of(given: &ArgMatches) -> Result<ReceiptNumber, NoTask>
     match ReceiptNumber::new(number as usize) {
         Some(number) => Ok(number),
         None => Err(NoTask::Usage),
-    }
-}
-
-// The number that the next mark number is raised to, if it is given, and a mark may have it.
-fn first_given(given: &ArgMatches) -> Result<Option<u32>, NoTask>
-    ensures read { IfOk result (IsNumberIn (one_of (codes "first") (rows_of (found_of given.now)))) }
-    ensures range { IfOk result (λ first. IfSome first (λ n. n < mark_count)) }
-    ensures taken { (first : Option ℕ) → IsNumberIn (one_of (codes "first") (rows_of (found_of given.now))) first
-        → IfSome first (λ n. n < mark_count) → result ≡ Ok first }
-    ensures usage { IfErr result (λ why. why ≡ NoTask.Usage) }
-{
-    match number_given(given, "first")? {
-        Some(first) => match MarkId::of_number(first) {
-            Some(_) => Ok(Some(first)),
-            None => Err(NoTask::Usage),
-        },
-        None => Ok(None),
     }
 }
 

@@ -14,7 +14,7 @@ use Rattle.escpos_till.specs.declared.entry.Entry.TheVariants as entry
 use Rattle.escpos_till.specs.declared.key.TheConstants.{KEY_CHARACTERS}
 use Rattle.escpos_till.specs.Keys.{IsKey, is_key_character}
 use Rattle.std.proofs.lemmas.List.Sums.{AllPass-from_list_all, list_all-from_AllPass}
-use Rattle.escpos_c.specs.TillLines.{IsReal, bytes_in, cancelled_of, entry_in, earlier_in, earlier_of, fields, if_ok, is_key, key_in, kind_in, line_of, mark_in, number_in, queued_in, queued_of, raised_of, recorded_of, renewed_of, replacement_byte, replacement_in, tried_in, tried_of, width_in, word}
+use Rattle.escpos_c.specs.TillLines.{IsReal, bytes_in, cancelled_of, earlier_in, earlier_of, entry_in, fields, heard_in, if_ok, is_key, key_in, kind_in, line_of, mark_in, number_in, queued_in, queued_of, raised_in, raised_of, recorded_in, recorded_of, renewed_in, renewed_of, replacement_byte, replacement_in, tried_in, tried_of, width_in, word}
 
 -- ## The fields are bytes
 
@@ -113,11 +113,11 @@ fields_are_bytes (entry.Queued content) real =
     high_bytes 2 content.options.width (replacement_byte replacement ∷ content.text)
     (one_more (replacement_byte replacement) content.text (code_small replacement real.1) real.2)
 fields_are_bytes (entry.Tried number next) real = high_bytes 8 number (to_be_bytes w32 next) (high_bytes 4 next [] none_more)
-fields_are_bytes (entry.Recorded number) real = high_bytes 8 number [] none_more
-fields_are_bytes (entry.Raised next) real = high_bytes 4 next [] none_more
+fields_are_bytes (entry.Recorded number heard) real = high_bytes 8 number (to_be_bytes w32 heard) (high_bytes 4 heard [] none_more)
+fields_are_bytes (entry.Raised next heard) real = high_bytes 4 next (to_be_bytes w32 heard) (high_bytes 4 heard [] none_more)
 fields_are_bytes (entry.Cancelled number) real = high_bytes 8 number [] none_more
 fields_are_bytes (entry.Key key) real = real.1
-fields_are_bytes (entry.Renewed last) real = high_bytes 4 last [] none_more
+fields_are_bytes (entry.Renewed last heard) real = high_bytes 4 last (to_be_bytes w32 heard) (high_bytes 4 heard [] none_more)
 fields_are_bytes (entry.Earlier number key) real = high_bytes 8 number key real.3
 
 pub read_back : (e : Entry) → IsReal e → entry_in (line_of e) ≡ Some e
@@ -131,21 +131,27 @@ read_back (entry.Tried number next) real =
     ap (kind_in tried_in) (bytes_back (fields e) (fields_are_bytes e real))
     ∙ ap (λ o. tried_of o (mark_in (to_be_bytes w32 next))) (number_back number real.0 real.1)
     ∙ ap (tried_of (Some number)) (mark_back next real.2)
-read_back (entry.Recorded number) real =
-    let e = entry.Recorded number in
-    ap (kind_in (λ bytes. recorded_of (number_in bytes))) (bytes_back (fields e) (fields_are_bytes e real)) ∙ ap recorded_of (number_back number real.0 real.1)
-read_back (entry.Raised next) real =
-    let e = entry.Raised next in
-    ap (kind_in (λ bytes. raised_of (mark_in bytes))) (bytes_back (fields e) (fields_are_bytes e real)) ∙ ap raised_of (mark_back next real)
+read_back (entry.Recorded number heard) real =
+    let e = entry.Recorded number heard in
+    ap (kind_in recorded_in) (bytes_back (fields e) (fields_are_bytes e real))
+    ∙ ap (λ o. recorded_of o (heard_in (to_be_bytes w32 heard))) (number_back number real.0 real.1)
+    ∙ ap (recorded_of (Some number)) (mark_back heard real.2)
+read_back (entry.Raised next heard) real =
+    let e = entry.Raised next heard in
+    ap (kind_in raised_in) (bytes_back (fields e) (fields_are_bytes e real))
+    ∙ ap (λ o. raised_of o (heard_in (to_be_bytes w32 heard))) (mark_back next real.0)
+    ∙ ap (raised_of (Some next)) (mark_back heard real.1)
 read_back (entry.Cancelled number) real =
     let e = entry.Cancelled number in
     ap (kind_in (λ bytes. cancelled_of (number_in bytes))) (bytes_back (fields e) (fields_are_bytes e real)) ∙ ap cancelled_of (number_back number real.0 real.1)
 read_back (entry.Key key) real =
     let e = entry.Key key in
     ap (kind_in key_in) (bytes_back (fields e) (fields_are_bytes e real)) ∙ key_back key real.0
-read_back (entry.Renewed last) real =
-    let e = entry.Renewed last in
-    ap (kind_in (λ bytes. renewed_of (mark_in bytes))) (bytes_back (fields e) (fields_are_bytes e real)) ∙ ap renewed_of (mark_back last real)
+read_back (entry.Renewed last heard) real =
+    let e = entry.Renewed last heard in
+    ap (kind_in renewed_in) (bytes_back (fields e) (fields_are_bytes e real))
+    ∙ ap (λ o. renewed_of o (mark_in (to_be_bytes w32 heard))) (mark_back last real.0)
+    ∙ ap (renewed_of (Some last)) (mark_back heard real.1)
 read_back (entry.Earlier number key) real =
     let e = entry.Earlier number key in
     ap (kind_in earlier_in) (bytes_back (fields e) (fields_are_bytes e real))
@@ -183,11 +189,11 @@ digits_no_lf (c ∷ text) h =
 word_no_lf : (e : Entry) → no_lf (word e) ≡ true
 word_no_lf (entry.Queued content) = refl
 word_no_lf (entry.Tried number next) = refl
-word_no_lf (entry.Recorded number) = refl
-word_no_lf (entry.Raised next) = refl
+word_no_lf (entry.Recorded number heard) = refl
+word_no_lf (entry.Raised next heard) = refl
 word_no_lf (entry.Cancelled number) = refl
 word_no_lf (entry.Key key) = refl
-word_no_lf (entry.Renewed last) = refl
+word_no_lf (entry.Renewed last heard) = refl
 word_no_lf (entry.Earlier number key) = refl
 
 -- The line of an entry has no LF but its end.

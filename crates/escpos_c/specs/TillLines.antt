@@ -42,11 +42,11 @@ earlier_word = codes "earlier "
 abbrev pub word : Entry → List ℕ
 word (entry.Queued content) = queued_word
 word (entry.Tried number next) = tried_word
-word (entry.Recorded number) = recorded_word
-word (entry.Raised next) = raised_word
+word (entry.Recorded number heard) = recorded_word
+word (entry.Raised next heard) = raised_word
 word (entry.Cancelled number) = cancelled_word
 word (entry.Key key) = key_word
-word (entry.Renewed last) = renewed_word
+word (entry.Renewed last heard) = renewed_word
 word (entry.Earlier number key) = earlier_word
 
 -- The replacement of a receipt's options, and 0 where there is none.
@@ -55,15 +55,15 @@ replacement_byte None = 0
 replacement_byte (Some code) = code
 
 -- The bytes of the fields: the width of a line in two and the replacement in one, then the receipt's text; the receipt's number in
--- eight, the next mark number in four; the key; the last number of an older ledger in four.
+-- eight, the next mark number in four; what is heard of marks in four; the key; the last number of an older ledger in four.
 abbrev pub fields : Entry → List ℕ
 fields (entry.Queued content) = to_be_bytes w16 content.options.width ++ replacement_byte content.options.replacement ∷ content.text
 fields (entry.Tried number next) = to_be_bytes w64 number ++ to_be_bytes w32 next
-fields (entry.Recorded number) = to_be_bytes w64 number
-fields (entry.Raised next) = to_be_bytes w32 next
+fields (entry.Recorded number heard) = to_be_bytes w64 number ++ to_be_bytes w32 heard
+fields (entry.Raised next heard) = to_be_bytes w32 next ++ to_be_bytes w32 heard
 fields (entry.Cancelled number) = to_be_bytes w64 number
 fields (entry.Key key) = key
-fields (entry.Renewed last) = to_be_bytes w32 last
+fields (entry.Renewed last heard) = to_be_bytes w32 last ++ to_be_bytes w32 heard
 fields (entry.Earlier number key) = to_be_bytes w64 number ++ key
 
 -- The line of an entry, without its end.
@@ -117,13 +117,23 @@ tried_of _ _ = None
 abbrev pub tried_in : List ℕ → Option Entry
 tried_in bytes = tried_of (number_in (take 8 bytes)) (mark_in (drop 8 bytes))
 
-abbrev pub recorded_of : Option ℕ → Option Entry
-recorded_of None = None
-recorded_of (Some number) = Some (entry.Recorded number)
+-- What is heard of marks; 0 where nothing is said, as in lines of before.
+abbrev pub heard_in : List ℕ → Option ℕ
+heard_in bytes = if length bytes == 0 then Some 0 else mark_in bytes
 
-abbrev pub raised_of : Option ℕ → Option Entry
-raised_of None = None
-raised_of (Some next) = Some (entry.Raised next)
+abbrev pub recorded_of : Option ℕ → Option ℕ → Option Entry
+recorded_of (Some number) (Some heard) = Some (entry.Recorded number heard)
+recorded_of _ _ = None
+
+abbrev pub recorded_in : List ℕ → Option Entry
+recorded_in bytes = recorded_of (number_in (take 8 bytes)) (heard_in (drop 8 bytes))
+
+abbrev pub raised_of : Option ℕ → Option ℕ → Option Entry
+raised_of (Some next) (Some heard) = Some (entry.Raised next heard)
+raised_of _ _ = None
+
+abbrev pub raised_in : List ℕ → Option Entry
+raised_in bytes = raised_of (mark_in (take 4 bytes)) (heard_in (drop 4 bytes))
 
 abbrev pub cancelled_of : Option ℕ → Option Entry
 cancelled_of None = None
@@ -136,9 +146,12 @@ is_key bytes = nat_lt 0 (length bytes) && nat_le (length bytes) KEY_CHARACTERS &
 abbrev pub key_in : List ℕ → Option Entry
 key_in bytes = if is_key bytes then Some (entry.Key bytes) else None
 
-abbrev pub renewed_of : Option ℕ → Option Entry
-renewed_of None = None
-renewed_of (Some last) = Some (entry.Renewed last)
+abbrev pub renewed_of : Option ℕ → Option ℕ → Option Entry
+renewed_of (Some last) (Some heard) = Some (entry.Renewed last heard)
+renewed_of _ _ = None
+
+abbrev pub renewed_in : List ℕ → Option Entry
+renewed_in bytes = renewed_of (mark_in (take 4 bytes)) (mark_in (drop 4 bytes))
 
 abbrev pub earlier_of : Option ℕ → List ℕ → Option Entry
 earlier_of None key = None
@@ -155,11 +168,11 @@ kind_in read (Some bytes) = read bytes
 abbrev pub digits_in : Option (List ℕ) → Option (List ℕ) → Option (List ℕ) → Option (List ℕ) → Option (List ℕ) → Option (List ℕ) → Option (List ℕ) → Option (List ℕ) → Option Entry
 digits_in (Some digits) _ _ _ _ _ _ _ = kind_in queued_in (bytes_in digits)
 digits_in None (Some digits) _ _ _ _ _ _ = kind_in tried_in (bytes_in digits)
-digits_in None None (Some digits) _ _ _ _ _ = kind_in (λ bytes. recorded_of (number_in bytes)) (bytes_in digits)
-digits_in None None None (Some digits) _ _ _ _ = kind_in (λ bytes. raised_of (mark_in bytes)) (bytes_in digits)
+digits_in None None (Some digits) _ _ _ _ _ = kind_in recorded_in (bytes_in digits)
+digits_in None None None (Some digits) _ _ _ _ = kind_in raised_in (bytes_in digits)
 digits_in None None None None (Some digits) _ _ _ = kind_in (λ bytes. cancelled_of (number_in bytes)) (bytes_in digits)
 digits_in None None None None None (Some digits) _ _ = kind_in key_in (bytes_in digits)
-digits_in None None None None None None (Some digits) _ = kind_in (λ bytes. renewed_of (mark_in bytes)) (bytes_in digits)
+digits_in None None None None None None (Some digits) _ = kind_in renewed_in (bytes_in digits)
 digits_in None None None None None None None (Some digits) = kind_in earlier_in (bytes_in digits)
 digits_in None None None None None None None None = None
 
@@ -177,9 +190,9 @@ abbrev pub IsReal : Entry → Type 0
 IsReal (entry.Queued content) =
     IsTrue (is_line_width content.options.width) × IfSome content.options.replacement (λ code. IsTrue (is_replacement code)) × IsBytes content.text
 IsReal (entry.Tried number next) = (0 < number) × (number < 2 ^ 64) × (next < 2 ^ 32)
-IsReal (entry.Recorded number) = (0 < number) × (number < 2 ^ 64)
-IsReal (entry.Raised next) = next < 2 ^ 32
+IsReal (entry.Recorded number heard) = (0 < number) × (number < 2 ^ 64) × (heard < 2 ^ 32)
+IsReal (entry.Raised next heard) = (next < 2 ^ 32) × (heard < 2 ^ 32)
 IsReal (entry.Cancelled number) = (0 < number) × (number < 2 ^ 64)
 IsReal (entry.Key key) = IsKey key × IsBytes key
-IsReal (entry.Renewed last) = last < 2 ^ 32
+IsReal (entry.Renewed last heard) = (last < 2 ^ 32) × (heard < 2 ^ 32)
 IsReal (entry.Earlier number key) = (0 < number) × (number < 2 ^ 64) × IsKey key × IsBytes key

@@ -5,17 +5,17 @@
 //!   Word      | Fields
 //!   queued    | the width of a line in 4 digits, the replacement in 2 (00 for none), the receipt's text
 //!   tried     | the receipt's number in 16 digits, the next mark number in 8
-//!   recorded  | the receipt's number in 16 digits
-//!   raised    | the next mark number in 8 digits
+//!   recorded  | the receipt's number in 16 digits, what is heard of marks in 8 (none in lines of before)
+//!   raised    | the next mark number in 8 digits, what is heard of marks in 8 (none in lines of before)
 //!   cancelled | the receipt's number in 16 digits
 //!   key       | the key of the receipt that the next line takes
-//!   renewed   | the last number of an older ledger in 8 digits
+//!   renewed   | the last number of an older ledger in 8 digits, what is heard of marks in 8
 //!   earlier   | the number of a receipt of the older ledger in 16 digits, its key
 
 ghost use Rattle.std.specs.Prelude.{◌≡◌, ◌++◌, [], ◌∷◌, Option, Some, None, option_map, IfOk, OnOk, IsErrOf};
 ghost use Rattle.std.specs.Int.{w16, w32, w64, to_be_bytes};
 ghost use Rattle.escpos_till.specs.declared.entry.Entry.{Entry as EntryValue};
-ghost use Rattle.escpos_c.specs.TillLines.{IsReal, after, bytes_in, cancelled_of, earlier_in, earlier_of, ended_line, entry_in, fields, key_in, line_of, mark_in, number_in, queued_in, raised_of, recorded_of, renewed_of, replacement_byte, replacement_in, tried_in, width_in, word};
+ghost use Rattle.escpos_c.specs.TillLines.{IsReal, after, bytes_in, cancelled_of, earlier_in, earlier_of, ended_line, entry_in, fields, heard_in, key_in, line_of, mark_in, number_in, queued_in, raised_in, recorded_in, renewed_in, replacement_byte, replacement_in, tried_in, width_in, word};
 
 use escpos_command::{LF, LineWidth};
 use escpos_receipt::ReceiptOptions;
@@ -77,12 +77,20 @@ fn fields(alloc: Global, entry: &Entry) -> Result<Vec<u8>, AllocError>
             bytes.extend_from_slice(&number.get().to_be_bytes())?;
             bytes.extend_from_slice(&next.to_be_bytes())?;
         }
-        Entry::Recorded { number } | Entry::Cancelled { number } => {
-            bytes.extend_from_slice(&number.get().to_be_bytes())?
+        Entry::Recorded { number, heard } => {
+            bytes.extend_from_slice(&number.get().to_be_bytes())?;
+            bytes.extend_from_slice(&heard.to_be_bytes())?;
         }
-        Entry::Raised { next } => bytes.extend_from_slice(&next.to_be_bytes())?,
+        Entry::Raised { next, heard } => {
+            bytes.extend_from_slice(&next.to_be_bytes())?;
+            bytes.extend_from_slice(&heard.to_be_bytes())?;
+        }
+        Entry::Cancelled { number } => bytes.extend_from_slice(&number.get().to_be_bytes())?,
         Entry::Key { key } => bytes.extend_from_slice(key.bytes())?,
-        Entry::Renewed { last } => bytes.extend_from_slice(&last.to_be_bytes())?,
+        Entry::Renewed { last, heard } => {
+            bytes.extend_from_slice(&last.to_be_bytes())?;
+            bytes.extend_from_slice(&heard.to_be_bytes())?;
+        }
         Entry::Earlier { number, key } => {
             bytes.extend_from_slice(&number.get().to_be_bytes())?;
             bytes.extend_from_slice(key.bytes())?;
@@ -213,21 +221,40 @@ fn tried_in(bytes: &[u8]) -> Option<Entry>
 
 // The entry by which a receipt is recorded, from its fields.
 fn recorded_in(bytes: &[u8]) -> Option<Entry>
-    ensures { result ≡ recorded_of (number_in bytes.now) }
+    ensures { result ≡ recorded_in bytes.now }
 {
-    match number_in(bytes) {
-        Some(number) => Some(Entry::Recorded { number }),
-        None => None,
+    if bytes.len() < 8 {
+        return None;
+    }
+    let (number, heard) = bytes.split_at(8);
+    match (number_in(number), heard_in(heard)) {
+        (Some(number), Some(heard)) => Some(Entry::Recorded { number, heard }),
+        _ => None,
+    }
+}
+
+// What is heard of marks, by these bytes; 0 where there are none.
+fn heard_in(bytes: &[u8]) -> Option<u32>
+    ensures { result ≡ heard_in bytes.now }
+{
+    if bytes.is_empty() {
+        Some(0)
+    } else {
+        mark_in(bytes)
     }
 }
 
 // The entry by which the next mark number is raised, from its fields.
 fn raised_in(bytes: &[u8]) -> Option<Entry>
-    ensures { result ≡ raised_of (mark_in bytes.now) }
+    ensures { result ≡ raised_in bytes.now }
 {
-    match mark_in(bytes) {
-        Some(next) => Some(Entry::Raised { next }),
-        None => None,
+    if bytes.len() < 4 {
+        return None;
+    }
+    let (next, heard) = bytes.split_at(4);
+    match (mark_in(next), heard_in(heard)) {
+        (Some(next), Some(heard)) => Some(Entry::Raised { next, heard }),
+        _ => None,
     }
 }
 
@@ -251,13 +278,17 @@ fn key_in(bytes: &[u8]) -> Option<Entry>
     }
 }
 
-// The entry by which a ledger goes on from an older one, from its field.
+// The entry by which a ledger goes on from an older one, from its fields.
 fn renewed_in(bytes: &[u8]) -> Option<Entry>
-    ensures { result ≡ renewed_of (mark_in bytes.now) }
+    ensures { result ≡ renewed_in bytes.now }
 {
-    match mark_in(bytes) {
-        Some(last) => Some(Entry::Renewed { last }),
-        None => None,
+    if bytes.len() < 4 {
+        return None;
+    }
+    let (last, heard) = bytes.split_at(4);
+    match (mark_in(last), mark_in(heard)) {
+        (Some(last), Some(heard)) => Some(Entry::Renewed { last, heard }),
+        _ => None,
     }
 }
 

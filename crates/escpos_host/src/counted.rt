@@ -8,12 +8,12 @@ use escpos_command::MarkId;
 use std::marker::Model;
 
 /// How many ids of mark numbers there are, 1,679,616.
-pub(crate) const MARK_COUNT: u32 = 36 * 36 * 36 * 36;
+pub const MARK_COUNT: u32 = 36 * 36 * 36 * 36;
 
 const _: () = prove!(MARK_COUNT == 1_679_616);
 
-/// The id of the mark that has this number, in a count that goes on.
-pub(crate) fn id_of_count(number: u32) -> MarkId
+/// The id of the mark that has this number, in a count that goes on. It comes again after 1,679,616 numbers. Allocates nothing.
+pub fn id_of_count(number: u32) -> MarkId
     ensures { result ≡ id_of number }
 {
     MarkId::of_number(number % MARK_COUNT).unwrap()

@@ -16,6 +16,7 @@ mod outbox;
 mod send;
 
 pub use answer_reader::{AnswerReader, NoAnswer};
+pub use counted::{MARK_COUNT, id_of_count};
 pub use escpos_receipt::{JsonError, JsonFault, Receipt, ReceiptFault};
 pub use host::{Heard, Host, HostError, HostEvent, HostState, MOST_IN_FLIGHT};
 pub use send::{SendFault, Sent, open_link, open_link_reporting, send_link};

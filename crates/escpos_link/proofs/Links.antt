@@ -12,7 +12,7 @@ use Rattle.escpos_command.specs.Parameters.{is_mark_id}
 use Rattle.escpos_host.specs.Machine.{ask_reports}
 use Rattle.escpos_link.specs.Ways.{Fresh, FreshOf, GivenUp, IsOpener, IsRest, LateOf, Later, Newest, Row, ServedLink, Unread, UnreadOf}
 use Rattle.escpos_link.proofs.Aligning.{OfReadings, marks_append, may_turn, reads_all}
-use Rattle.escpos_link.proofs.Numbers.{row_back, row_from, row_join, row_split, row_within}
+use Rattle.escpos_link.proofs.Numbers.{row_back, row_empty, row_from, row_join, row_split, row_within}
 
 -- ## A part is delivered
 
@@ -157,6 +157,29 @@ pub given_within : (from to : ℕ) (half : List ℕ) (ended : List (List ℕ)) �
 given_within from to half [] given = given
 given_within from to half (bytes ∷ others) (mid, served, later) =
     let a = served_within from mid half bytes served in let b = later_within mid to others later in omega (arith, a, b)
+
+-- ## Links without a mark that may still be answered
+
+served_empty : (a b j : ℕ) (half bytes : List ℕ) → b ≤ a → ServedLink a b half bytes → ServedLink j j half bytes
+served_empty a b j half bytes none (rest, inl u) = (rest, inl (unread_as (Row a b) (Row j j) (λ ids k. row_empty a b j ids none k) half (bytes ++ rest) u))
+served_empty a b j half bytes none (rest, inr i) = (rest, inr (record { due = i.due; aligned = i.aligned; known = row_empty a b j (marks i.due) none i.known }))
+
+later_empty : (a b j : ℕ) (others : List (List ℕ)) → b ≤ a → Later a b others → Later j j others
+later_empty a b j [] none later = omega arith
+later_empty a b j (bytes ∷ others) none (mid, (more, (openers, opening, known, is)), later) =
+    let from = row_within a mid (marks openers) known in
+    let to = later_within mid b others later in (
+      j,
+      (more, (openers, opening, row_empty a mid j (marks openers) (omega (arith, to, none)) known, is)),
+      later_empty mid b j others (omega (arith, from, none)) later,
+    )
+
+pub given_empty : (a b j : ℕ) (half : List ℕ) (ended : List (List ℕ)) → b ≤ a → GivenUp a b half ended → GivenUp j j half ended
+given_empty a b j half [] none given = omega arith
+given_empty a b j half (bytes ∷ others) none (mid, served, later) =
+    let from = served_within a mid half bytes served in
+    let to = later_within mid b others later in
+    (j, served_empty a mid j half bytes (omega (arith, to, none)) served, later_empty mid b j others (omega (arith, from, none)) later)
 
 -- The printer comes to the next of them.
 pub given_skip : (from to : ℕ) (half rest bytes : List ℕ) (others : List (List ℕ)) → IsRest rest → GivenUp from to half (bytes ∷ others) → GivenUp from to rest others

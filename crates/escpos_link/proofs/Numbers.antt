@@ -41,6 +41,11 @@ row_front from to xs ys k = let r = row_split from to xs ys k in row_to from r.0
 pub row_back : (from to : ℕ) (xs ys : List (List ℕ)) → Row from to (xs ++ ys) → Row from to ys
 row_back from to xs ys k = let r = row_split from to xs ys k in row_from from r.0 to ys (row_within from r.0 xs r.1) r.2
 
+-- Where no number is in a range there is no mark; and so for any other such range.
+pub row_empty : (a b j : ℕ) (ids : List (List ℕ)) → b ≤ a → Row a b ids → Row j j ids
+row_empty a b j [] none k = omega arith
+row_empty a b j (id ∷ ids) none (n, least, is, k) = let more = row_within (n + 1) b ids k in absurd (omega (arith, least, more, none))
+
 -- ## Receipts in flight
 
 pub rising_within : (base next : ℕ) (flight : List InFlight) → Rising base flight next → base ≤ next

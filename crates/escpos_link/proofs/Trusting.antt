@@ -25,7 +25,7 @@ use Rattle.escpos_link.proofs.Claiming.{OfPaper}
 use Rattle.escpos_link.proofs.Hearing.{all_on, answered_trusted}
 use Rattle.escpos_link.proofs.Numbers.{OfNumbers}
 use Rattle.escpos_link.proofs.PromisedEvents.{all_flying, off_promised, promised}
-use Rattle.escpos_link.proofs.WayKept.{Laws, begun_on_way, on_way, on_way_stands, resumed_from_on_way, resumed_on_way, width_is}
+use Rattle.escpos_link.proofs.WayKept.{Laws, answered_on_way, begun_on_way, on_way, on_way_stands, resumed_from_on_way, resumed_on_way, width_is}
 
 -- So where a line is still trusted for the width of before, it is for its own, which is the same.
 pub still : (l after : LineView) → Trusted l.printer.sheet.line_dots after → StillTrusted l after
@@ -178,6 +178,9 @@ pub resumed_from_trusted : (width : ℕ) → Laws → (l : LineView) (f count he
     → Trusted width (resumed_from l f count heard)
 resumed_from_trusted width laws l f count heard least less t =
     record { on_way = resumed_from_on_way width laws l f count heard least less t.on_way; left = λ not_open. tt }
+
+pub answered_resumed : (width : ℕ) → Laws → (l : LineView) (f count heard : ℕ) → l.host.next ≤ l.host.heard → heard ≤ f → Trusted width l → Trusted width (resumed_from l f count heard)
+answered_resumed width laws l f count heard none within t = record { on_way = answered_on_way width laws l f count heard none within t.on_way; left = λ not_open. tt }
 
 -- ## No answer ends the host's link
 

@@ -40,8 +40,8 @@ use Rattle.escpos_link.proofs.Claiming.{OfPaper, course_stands, owed_stands}
 use Rattle.escpos_link.proofs.Feeding.{Read, fed_way}
 use Rattle.escpos_link.proofs.Standing.{stands_front}
 use Rattle.escpos_link.proofs.Leaving.{items_are, leaves_way, off_way, opened_way}
-use Rattle.escpos_link.proofs.Links.{mark_fresh, request_fresh}
-use Rattle.escpos_link.proofs.Numbers.{OfNumbers, row_back, row_from, row_join, row_split}
+use Rattle.escpos_link.proofs.Links.{given_empty, given_within, mark_fresh, request_fresh}
+use Rattle.escpos_link.proofs.Numbers.{OfNumbers, row_back, row_empty, row_from, row_join, row_split, row_within}
 use Rattle.escpos_link.proofs.AfterPutting.{asked_way, moved_way, nudged_way, submitted_way}
 use Rattle.escpos_link.proofs.Turning.{OfAnswers}
 
@@ -195,6 +195,36 @@ pub resumed_from_on_way : (width : ℕ) → Laws → (l : LineView) (f count hea
 resumed_from_on_way width laws l f count heard least less t =
     off_trusted width laws l (record { phase = Down; out = []; half = []; next = f; heard = heard; records = take count l.host.records; left = [] }) (drop count l.host.records) refl refl
     (sym (take-append-drop count l.host.records)) least less t
+
+-- Where all its marks are answered, the host goes on with any higher number, and knows of all marks below any number up to that.
+answered_off : (width : ℕ) (l : LineView) (f heard : ℕ) → l.host.phase ≡ Down → l.live ≡ None → l.host.next ≤ l.host.heard → heard ≤ f → (pending : List (List ℕ))
+    → Way width l.host.phase l.host.out l.host.next l.host.heard l.host.records l.printer.sheet l.printer.half l.ended None pending
+    → Off width Down f heard l.host.records l.printer.sheet l.printer.half l.ended pending
+answered_off width l f heard is_down no_link none within pending (inl left) = absurd (left.up is_down)
+answered_off width l f heard is_down no_link none within pending (inr off) =
+    let from = row_within l.host.heard off.reach pending off.known in
+    let to = given_within off.reach off.end l.printer.half l.ended off.given_up in
+    let last = off.within in record {
+      down = refl;
+      stands = off.stands;
+      reach = heard;
+      end = heard;
+      within = within;
+      known = row_empty l.host.heard off.reach heard pending (omega (arith, none, last, to)) off.known;
+      given_up = given_empty off.reach off.end heard l.printer.half l.ended (omega (arith, none, last, from)) off.given_up;
+    }
+
+pub answered_on_way : (width : ℕ) → Laws → (l : LineView) (f count heard : ℕ) → l.host.next ≤ l.host.heard → heard ≤ f → OnWay width l → OnWay width (resumed_from l f count heard)
+answered_on_way width laws l f count heard none within t =
+    let mid : LineView = resumed_from l l.host.next count l.host.heard in
+    let off = resumed_from_on_way width laws l l.host.next count l.host.heard (omega arith) (omega arith) t in
+    record {
+      answers = off.answers;
+      hears = off.hears;
+      half = off.half;
+      reached = off.reached;
+      way = inr (answered_off width mid f heard refl refl none within (answered_marks (off.answers ++ l.printer.waiting)) off.way);
+    }
 
 -- ## What the printer does
 

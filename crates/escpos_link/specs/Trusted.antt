@@ -61,7 +61,7 @@ IsFitting _ = Unit {0}
 
 -- The law of the line: where records can be trusted, they stand on the paper; they can still be trusted after any event and
 -- after any refusal, if the host goes on with fewer records, even if it doesn't know all that it had heard, and if a receipt
--- that is left is taken; and the host hears no byte that fits no answer.
+-- that is left is taken; a host whose marks are all answered may go on with any number; and the host hears no byte that fits no answer.
 pub record Trusting : Type 0 where
   pub stands : (l : LineView) → IsTrusted l → Stands l.printer.sheet.line_dots l.host.records l.printer.sheet.items
   pub kept : (e : Event) (l after : LineView) (n : Note) → IsFitting e → IsSound l.host → IsLine l → After e l n after → IsTrusted l → StillTrusted l after
@@ -70,4 +70,5 @@ pub record Trusting : Type 0 where
   pub resumes : (l : LineView) (f count : ℕ) → l.host.next ≤ f → IsTrusted l → StillTrusted l (resumed l f count)
   pub resumes_from : (l : LineView) (f count heard : ℕ) → l.host.next ≤ f → heard ≤ l.host.heard → IsTrusted l
       → StillTrusted l (resumed_from l f count heard)
+  pub resumes_answered : (l : LineView) (f count heard : ℕ) → l.host.next ≤ l.host.heard → heard ≤ f → IsTrusted l → StillTrusted l (resumed_from l f count heard)
   pub taken : (h : HostView) (w : WireView) → IsTrusted (line_of h w) → StillTrusted (line_of h w) (line_of (handed_out h) w)

@@ -67,11 +67,11 @@ no_schema = record { tables = []; indexes = []; views = [] }
 abbrev pub kind_of : Entry → ℕ
 kind_of (entry.Queued content) = 1
 kind_of (entry.Tried number next) = 2
-kind_of (entry.Recorded number) = 3
-kind_of (entry.Raised next) = 4
+kind_of (entry.Recorded number h) = 3
+kind_of (entry.Raised next h) = 4
 kind_of (entry.Cancelled number) = 5
 kind_of (entry.Key key) = 6
-kind_of (entry.Renewed last) = 7
+kind_of (entry.Renewed last h) = 7
 kind_of (entry.Earlier number key) = 8
 
 -- The dots of a receipt's lines, but 0 for the usual 512, as in ledgers that know no other width. A line has 1 dot at least, so
@@ -84,38 +84,39 @@ abbrev pub replacement_number : Option ℕ → ℕ
 replacement_number None = 0
 replacement_number (Some code) = code + 1
 
--- the receipt's number, or the last one of an older ledger; in an entry by which a receipt is taken the width of its lines, and 0 in an entry that
--- has none of these
+-- the receipt's number, or the last one of an older ledger; in an entry by which a receipt is taken the width of its lines, in one by which the
+-- next mark number is raised what is heard of marks, and 0 in an entry that has none of these
 abbrev pub number_of : Entry → ℕ
 number_of (entry.Queued content) = width_number content.options.width
 number_of (entry.Tried number next) = number
-number_of (entry.Recorded number) = number
-number_of (entry.Raised next) = 0
+number_of (entry.Recorded number h) = number
+number_of (entry.Raised next h) = h
 number_of (entry.Cancelled number) = number
 number_of (entry.Key key) = 0
-number_of (entry.Renewed last) = last
+number_of (entry.Renewed last h) = last
 number_of (entry.Earlier number key) = number
 
--- the mark number that is free afterwards; in an entry by which a receipt is taken its replacement, and 0 in an entry that has neither
+-- the mark number that is free afterwards; in an entry by which a receipt is taken its replacement, in one by which it is recorded or a ledger goes
+-- on what is heard of marks, and 0 in an entry that has none of these
 abbrev pub next_of : Entry → ℕ
 next_of (entry.Queued content) = replacement_number content.options.replacement
 next_of (entry.Tried number next) = next
-next_of (entry.Recorded number) = 0
-next_of (entry.Raised next) = next
+next_of (entry.Recorded number h) = h
+next_of (entry.Raised next h) = next
 next_of (entry.Cancelled number) = 0
 next_of (entry.Key key) = 0
-next_of (entry.Renewed last) = 0
+next_of (entry.Renewed last h) = h
 next_of (entry.Earlier number key) = 0
 
 -- the receipt's text, or its key, and NULL in an entry that has neither
 abbrev pub content_of : Entry → Value
 content_of (entry.Queued content) = Bytes content.text
 content_of (entry.Tried number next) = Null
-content_of (entry.Recorded number) = Null
-content_of (entry.Raised next) = Null
+content_of (entry.Recorded number h) = Null
+content_of (entry.Raised next h) = Null
 content_of (entry.Cancelled number) = Null
 content_of (entry.Key key) = Bytes key
-content_of (entry.Renewed last) = Null
+content_of (entry.Renewed last h) = Null
 content_of (entry.Earlier number key) = Bytes key
 
 -- the row of an entry: id, kind, number, next, content
@@ -127,11 +128,11 @@ row_of id e = Int (pos id) ∷ Int (pos (kind_of e)) ∷ Int (pos (number_of e))
 abbrev pub IsReal : Entry → Type 0
 IsReal (entry.Queued content) = IsTrue (is_line_width content.options.width) × IfSome content.options.replacement (λ code. IsTrue (is_replacement code))
 IsReal (entry.Tried number next) = (0 < number) × (next < 2 ^ 32)
-IsReal (entry.Recorded number) = 0 < number
-IsReal (entry.Raised next) = next < 2 ^ 32
+IsReal (entry.Recorded number h) = (0 < number) × (h < 2 ^ 32)
+IsReal (entry.Raised next h) = (next < 2 ^ 32) × (h < 2 ^ 32)
 IsReal (entry.Cancelled number) = 0 < number
 IsReal (entry.Key key) = IsKey key
-IsReal (entry.Renewed last) = last < 2 ^ 32
+IsReal (entry.Renewed last h) = (last < 2 ^ 32) × (h < 2 ^ 32)
 IsReal (entry.Earlier number key) = (0 < number) × IsKey key
 
 abbrev pub rows_from : ℕ → List Entry → List Row

@@ -42,20 +42,21 @@ pub fn kind(entry: &Entry) -> ValueRef<'static>
     })
 }
 
-/// The receipt's number, or the last one of an older ledger; in an entry by which a receipt is taken the width of its lines, and 0
-/// in an entry that has none of these; `None` past 2^63.
+/// The receipt's number, or the last one of an older ledger; in an entry by which a receipt is taken the width of its lines, in one by which
+/// the next mark number is raised what is heard of marks, and 0 in an entry that has none of these; `None` past 2^63.
 pub fn number(entry: &Entry) -> Option<ValueRef<'static>>
     ensures number { IfSome result (λ number. owned number ≡ Int (pos (number_of entry.now))) }
     ensures given { number_of entry.now < 2 ^ 63 → result ≢ None }
 {
     let number = match entry {
         Entry::Queued { content } => width_number(content.options.width),
-        Entry::Raised { .. } | Entry::Key { .. } => 0,
+        Entry::Key { .. } => 0,
         Entry::Tried { number, .. }
-        | Entry::Recorded { number }
+        | Entry::Recorded { number, .. }
         | Entry::Cancelled { number }
         | Entry::Earlier { number, .. } => number.get(),
-        Entry::Renewed { last } => *last as usize,
+        Entry::Raised { heard, .. } => *heard as usize,
+        Entry::Renewed { last, .. } => *last as usize,
     };
     Some(ValueRef::Int(i64::try_from(number).ok()?))
 }
@@ -72,19 +73,16 @@ fn width_number(width: LineWidth) -> usize
     }
 }
 
-/// The mark number that is free afterwards; in an entry by which a receipt is taken its replacement, and 0 in an entry that has
-/// neither.
+/// The mark number that is free afterwards; in an entry by which a receipt is taken its replacement, in one by which it is recorded or a ledger
+/// goes on what is heard of marks, and 0 in an entry that has none of these.
 pub fn next(entry: &Entry) -> ValueRef<'static>
     ensures { owned result ≡ Int (pos (next_of entry.now)) }
 {
     ValueRef::Int(match entry {
         Entry::Queued { content } => replacement_number(content.options.replacement),
-        Entry::Recorded { .. }
-        | Entry::Cancelled { .. }
-        | Entry::Key { .. }
-        | Entry::Renewed { .. }
-        | Entry::Earlier { .. } => 0,
-        Entry::Tried { next, .. } | Entry::Raised { next } => i64::from(*next),
+        Entry::Cancelled { .. } | Entry::Key { .. } | Entry::Earlier { .. } => 0,
+        Entry::Tried { next, .. } | Entry::Raised { next, .. } => i64::from(*next),
+        Entry::Recorded { heard, .. } | Entry::Renewed { heard, .. } => i64::from(*heard),
     })
 }
 
@@ -242,17 +240,20 @@ fn entry_without_content(kind: u64, number: u64, next: u64) -> Option<Entry>
             number: receipt_number(number)?,
             next: u32::try_from(next).ok()?,
         }),
-        3 if next == 0 => Some(Entry::Recorded {
+        3 => Some(Entry::Recorded {
             number: receipt_number(number)?,
+            heard: u32::try_from(next).ok()?,
         }),
-        4 if number == 0 => Some(Entry::Raised {
+        4 => Some(Entry::Raised {
             next: u32::try_from(next).ok()?,
+            heard: u32::try_from(number).ok()?,
         }),
         5 if next == 0 => Some(Entry::Cancelled {
             number: receipt_number(number)?,
         }),
-        7 if next == 0 => Some(Entry::Renewed {
+        7 => Some(Entry::Renewed {
             last: u32::try_from(number).ok()?,
+            heard: u32::try_from(next).ok()?,
         }),
         _ => None,
     }

@@ -1,5 +1,5 @@
 -- What one more entry does to the book of a list of entries.
-use Rattle.std.proofs.Common.{ℕ, zero, suc, ◌≡◌, ◌≢◌, ◌+◌, ◌-◌, ◌<◌, ◌≤◌, inl, inr, Some, None, List, [], ◌∷◌, ◌++◌, length, get_or, set, refl, sym, ◌∙◌, ap, subst, length-append, length-set, append-nil, arith}
+use Rattle.std.proofs.Common.{ℕ, zero, suc, ◌≡◌, ◌≢◌, ◌+◌, ◌-◌, ◌<◌, ◌≤◌, inl, inr, Some, None, List, [], ◌∷◌, ◌++◌, length, get_or, set, max, refl, sym, ◌∙◌, ap, subst, length-append, length-set, append-nil, arith}
 use Rattle.std.specs.Prelude.{IfSome, MatchOption, Option, slice_get}
 use Rattle.std.proofs.lemmas.List.Elements.{filter_map-append}
 use Rattle.std.specs.Option.{SomeIff}
@@ -13,7 +13,7 @@ use Rattle.escpos_till.specs.declared.state.ReceiptState.TheVariants as state
 use Rattle.escpos_till.specs.declared.keyed.Keyed.{Keyed}
 use Rattle.escpos_till.specs.Book.{HasContents, HasKeys, IsBookOf, StandsAt}
 use Rattle.escpos_till.specs.Keyed.{ListsKey, ListsNumber}
-use Rattle.escpos_till.specs.Entries.{HasKey, IsLedger, MayFollow, Waits, content_of, contents, earlier, last_number, place_here, recorded, state_of, states, times_tried, waiting}
+use Rattle.escpos_till.specs.Entries.{HasKey, IsLedger, MayFollow, Waits, content_of, contents, earlier, heard_said, last_number, place_here, recorded, state_of, states, times_tried, waiting}
 use Rattle.escpos_till.specs.Entries.{states as states_of}
 use Rattle.escpos_till.specs.Delivers.{FirstWaits}
 use Rattle.escpos_till.specs.Tries.{tries, try_of}
@@ -22,7 +22,7 @@ use Rattle.escpos_till.specs.Contents.{content_with}
 use Rattle.escpos_till.specs.States.{IsEnded, IsFirstBesides, IsFirstWaiting, tries_in}
 use Rattle.escpos_till.proofs.StateLemmas.{first_after_queued, first_after_tried, get-set, get-snoc}
 use Rattle.escpos_till.proofs.KeyLemmas.{key_of_number, keys_after_earlier, keys_after_keyed, keys_after_plain, keys_as_before, last_key_after, number_of_key}
-use Rattle.escpos_till.proofs.EntryLemmas.{cancelled_states, earlier-snoc, first_of_states, last-states, length-states, no_more, next_after_cancelled, next_after_earlier, next_after_key, next_after_queued, next_after_raised, next_after_recorded, next_after_tried, recorded-count, recorded-same, recorded_states, states-get, states_after_earlier, states_after_key, states_after_queued, states_after_raised, tried_states, waiting_state, waits_by_state, within_states}
+use Rattle.escpos_till.proofs.EntryLemmas.{cancelled_states, earlier-snoc, first_of_states, heard-snoc, heard_same, last-states, length-states, no_more, next_after_cancelled, next_after_earlier, next_after_key, next_after_queued, next_after_raised, next_after_recorded, next_after_tried, recorded-count, recorded-same, recorded_states, states-get, states_after_earlier, states_after_key, states_after_queued, states_after_raised, tried_states, waiting_state, waits_by_state, within_states}
 
 -- ## Contents
 
@@ -117,8 +117,8 @@ contents_after_end kept es e n x end is_end same_contents now waits has = record
       ];
 }
 
-contents_after_recorded : (kept : List Content) (es : List Entry) (n : ℕ) (x : Content) → Waits es n → HasContents kept es → HasContents (set kept (place_here es n) x) (es ++ Recorded n ∷ [])
-contents_after_recorded kept es n x waits = contents_after_end kept es (Recorded n) n x (state.Recorded (length (recorded es))) tt (contents-stay es (Recorded n) refl) (recorded_states es n waits) waits
+contents_after_recorded : (kept : List Content) (es : List Entry) (n hd : ℕ) (x : Content) → Waits es n → HasContents kept es → HasContents (set kept (place_here es n) x) (es ++ Recorded n hd ∷ [])
+contents_after_recorded kept es n hd x waits = contents_after_end kept es (Recorded n hd) n x (state.Recorded (length (recorded es))) tt (contents-stay es (Recorded n hd) refl) (recorded_states es n hd waits) waits
 
 -- By an entry that leaves receipts and states as they are.
 contents_after_other : (kept : List Content) (es : List Entry) (e : Entry) → contents (e ∷ []) ≡ [] → states_of (es ++ e ∷ []) ≡ states_of es → HasContents kept es → HasContents kept (es ++ e ∷ [])
@@ -147,15 +147,16 @@ state_read s es n p x sums waits same is =
 
 pub book_after_queued : (s t : Book) (es : List Entry) (e : Entry) (content : Content) → IsBookOf s es → IsLedger es → e ≡ Queued content
     → t.contents.items ≡ s.contents.items ++ content ∷ [] → t.states.items ≡ s.states.items ++ state.Waiting 0 ∷ []
-    → t.first_waiting ≡ s.first_waiting → t.recorded ≡ s.recorded → t.next ≡ s.next → t.count ≡ s.count + 1 → t.tries.items ≡ s.tries.items
+    → t.first_waiting ≡ s.first_waiting → t.recorded ≡ s.recorded → t.next ≡ s.next → t.heard ≡ s.heard → t.count ≡ s.count + 1 → t.tries.items ≡ s.tries.items
     → HasKeys t.keys.items (es ++ Queued content ∷ []) → t.last_key ≡ None → t.earlier ≡ s.earlier
     → IsBookOf t (es ++ e ∷ [])
-book_after_queued s t es e content sums ledger kind kept states first recorded next count tried keys last older = subst (λ e. IsBookOf t (es ++ e ∷ [])) (sym kind) (record {
+book_after_queued s t es e content sums ledger kind kept states first recorded next marks count tried keys last older = subst (λ e. IsBookOf t (es ++ e ∷ [])) (sym kind) (record {
   contents = subst (λ cs. HasContents cs (es ++ Queued content ∷ [])) (sym kept) (contents_after_queued s.contents.items es content ledger sums.contents);
   states = states ∙ ap (λ ss. ss ++ state.Waiting 0 ∷ []) sums.states ∙ sym (states_after_queued es content ledger);
   first_waiting = subst (λ ss. IsFirstWaiting ss t.first_waiting) (sym states) (subst (IsFirstWaiting (s.states.items ++ state.Waiting 0 ∷ [])) (sym first) (first_after_queued s.states.items s.first_waiting sums.first_waiting));
   recorded = recorded ∙ sums.recorded ∙ sym (recorded-same es (Queued content) refl);
   next = next ∙ sums.next ∙ sym (next_after_queued es content);
+  heard = marks ∙ sums.heard ∙ sym (heard_same es (Queued content) refl);
   tries = tried ∙ sums.tries ∙ sym (same_tries es (Queued content) refl);
   keys = keys;
   earlier = older ∙ sums.earlier ∙ sym (earlier-snoc es (Queued content) refl);
@@ -166,9 +167,9 @@ book_after_queued s t es e content sums ledger kind kept states first recorded n
 pub book_after_tried : (s t : Book) (es : List Entry) (e : Entry) (n next p : ℕ) (x y : ReceiptState) → IsBookOf s es → MayFollow es e → e ≡ Tried n next → p ≡ n - (1 + s.earlier)
     → x ≡ get_or s.states.items p x → ((tried : ℕ) → x ≡ state.Waiting tried → y ≡ state.Waiting (tried + 1))
     → t.contents.items ≡ s.contents.items → t.states.items ≡ set s.states.items p y
-    → t.first_waiting ≡ s.first_waiting → t.recorded ≡ s.recorded → t.next ≡ next → t.count ≡ s.count + 1 → t.tries.items ≡ s.tries.items ++ record { number = n; closing = next - 1 } ∷ [] → t.keys.items ≡ s.keys.items → t.last_key ≡ None → t.earlier ≡ s.earlier
+    → t.first_waiting ≡ s.first_waiting → t.recorded ≡ s.recorded → t.next ≡ next → t.heard ≡ s.heard → t.count ≡ s.count + 1 → t.tries.items ≡ s.tries.items ++ record { number = n; closing = next - 1 } ∷ [] → t.keys.items ≡ s.keys.items → t.last_key ≡ None → t.earlier ≡ s.earlier
     → IsBookOf t (es ++ e ∷ [])
-book_after_tried s t es e n next p x y sums follows kind same is more kept states first recorded is_next count tried keys last older =
+book_after_tried s t es e n next p x y sums follows kind same is more kept states first recorded is_next marks count tried keys last older =
     let waits : Waits es n = (subst (MayFollow es) kind follows).0 in
     let one_more = more (times_tried es n) (state_read s es n p x sums waits same is) in
     let set_so : t.states.items ≡ set s.states.items (place_here es n) (state.Waiting (times_tried es n + 1)) =
@@ -180,6 +181,7 @@ book_after_tried s t es e n next p x y sums follows kind same is more kept state
           (first_after_tried s.states.items s.first_waiting (place_here es n) (times_tried es n) (times_tried es n + 1) (ap (λ ss. slice_get ss (place_here es n)) sums.states ∙ waiting_state es n waits) sums.first_waiting));
       recorded = recorded ∙ sums.recorded ∙ sym (recorded-same es (Tried n next) refl);
       next = is_next ∙ sym (next_after_tried es n next);
+      heard = marks ∙ sums.heard ∙ sym (heard_same es (Tried n next) refl);
       tries = tried ∙ ap (λ ts. ts ++ record { number = n; closing = next - 1 } ∷ []) sums.tries ∙ sym (tries-snoc es (Tried n next));
       keys = subst (λ ks. HasKeys ks (es ++ Tried n next ∷ [])) (sym keys) (keys_as_before s.keys.items es (Tried n next) tt sums.keys);
       earlier = older ∙ sums.earlier ∙ sym (earlier-snoc es (Tried n next) refl);
@@ -187,32 +189,33 @@ book_after_tried s t es e n next p x y sums follows kind same is more kept state
       count = one_more_entry s.count t.count es (Tried n next) count sums.count;
     })
 
-pub book_after_recorded : (s t : Book) (es : List Entry) (e : Entry) (n p : ℕ) → IsBookOf s es → MayFollow es e → e ≡ Recorded n → p ≡ n - (1 + s.earlier)
+pub book_after_recorded : (s t : Book) (es : List Entry) (e : Entry) (n hd p : ℕ) → IsBookOf s es → MayFollow es e → e ≡ Recorded n hd → p ≡ n - (1 + s.earlier)
     → (x : Content) → t.contents.items ≡ set s.contents.items p x → t.states.items ≡ set s.states.items p (state.Recorded s.recorded)
-    → IsFirstWaiting t.states.items t.first_waiting → t.recorded ≡ s.recorded + 1 → t.next ≡ s.next → t.count ≡ s.count + 1 → t.tries.items ≡ s.tries.items → t.keys.items ≡ s.keys.items → t.last_key ≡ None → t.earlier ≡ s.earlier
+    → IsFirstWaiting t.states.items t.first_waiting → t.recorded ≡ s.recorded + 1 → t.next ≡ s.next → t.heard ≡ max s.heard (heard_said es (Recorded n hd)) → t.count ≡ s.count + 1 → t.tries.items ≡ s.tries.items → t.keys.items ≡ s.keys.items → t.last_key ≡ None → t.earlier ≡ s.earlier
     → IsBookOf t (es ++ e ∷ [])
-book_after_recorded s t es e n p sums follows kind same x kept states first recorded next count tried keys last older =
+book_after_recorded s t es e n hd p sums follows kind same x kept states first recorded next marks count tried keys last older =
     let waits : Waits es n = (subst (MayFollow es) kind follows).0 in
     subst (λ e. IsBookOf t (es ++ e ∷ [])) (sym kind) (record {
-      contents = subst (λ cs. HasContents cs (es ++ Recorded n ∷ [])) (sym (kept ∙ ap (λ k. set s.contents.items k x) (place_is s es n p sums same))) (contents_after_recorded s.contents.items es n x waits sums.contents);
+      contents = subst (λ cs. HasContents cs (es ++ Recorded n hd ∷ [])) (sym (kept ∙ ap (λ k. set s.contents.items k x) (place_is s es n p sums same))) (contents_after_recorded s.contents.items es n hd x waits sums.contents);
       states = states ∙ ap (λ k. set s.states.items k (state.Recorded s.recorded)) (place_is s es n p sums same) ∙ ap (λ ss. set ss (place_here es n) (state.Recorded s.recorded)) sums.states
-          ∙ ap (λ c. set (states_of es) (place_here es n) (state.Recorded c)) sums.recorded ∙ sym (recorded_states es n waits);
+          ∙ ap (λ c. set (states_of es) (place_here es n) (state.Recorded c)) sums.recorded ∙ sym (recorded_states es n hd waits);
       first_waiting = first;
-      recorded = recorded ∙ ap (λ c. c + 1) sums.recorded ∙ sym (recorded-count es n);
-      next = next ∙ sums.next ∙ sym (next_after_recorded es n);
-      tries = tried ∙ sums.tries ∙ sym (same_tries es (Recorded n) refl);
-      keys = subst (λ ks. HasKeys ks (es ++ Recorded n ∷ [])) (sym keys) (keys_as_before s.keys.items es (Recorded n) tt sums.keys);
-      earlier = older ∙ sums.earlier ∙ sym (earlier-snoc es (Recorded n) refl);
-      last_key = last ∙ sym (last_key_after es (Recorded n));
-      count = one_more_entry s.count t.count es (Recorded n) count sums.count;
+      recorded = recorded ∙ ap (λ c. c + 1) sums.recorded ∙ sym (recorded-count es n hd);
+      next = next ∙ sums.next ∙ sym (next_after_recorded es n hd);
+      heard = marks ∙ ap (λ k. max k (heard_said es (Recorded n hd))) sums.heard ∙ sym (heard-snoc es (Recorded n hd));
+      tries = tried ∙ sums.tries ∙ sym (same_tries es (Recorded n hd) refl);
+      keys = subst (λ ks. HasKeys ks (es ++ Recorded n hd ∷ [])) (sym keys) (keys_as_before s.keys.items es (Recorded n hd) tt sums.keys);
+      earlier = older ∙ sums.earlier ∙ sym (earlier-snoc es (Recorded n hd) refl);
+      last_key = last ∙ sym (last_key_after es (Recorded n hd));
+      count = one_more_entry s.count t.count es (Recorded n hd) count sums.count;
     })
 
 pub book_after_cancelled : (s t : Book) (es : List Entry) (e : Entry) (n p : ℕ) (x y : ReceiptState) → IsBookOf s es → MayFollow es e → e ≡ Cancelled n → p ≡ n - (1 + s.earlier)
     → x ≡ get_or s.states.items p x → ((tried : ℕ) → x ≡ state.Waiting tried → y ≡ state.Cancelled tried)
     → (c : Content) → t.contents.items ≡ set s.contents.items p c → t.states.items ≡ set s.states.items p y
-    → IsFirstWaiting t.states.items t.first_waiting → t.recorded ≡ s.recorded → t.next ≡ s.next → t.count ≡ s.count + 1 → t.tries.items ≡ s.tries.items → t.keys.items ≡ s.keys.items → t.last_key ≡ None → t.earlier ≡ s.earlier
+    → IsFirstWaiting t.states.items t.first_waiting → t.recorded ≡ s.recorded → t.next ≡ s.next → t.heard ≡ s.heard → t.count ≡ s.count + 1 → t.tries.items ≡ s.tries.items → t.keys.items ≡ s.keys.items → t.last_key ≡ None → t.earlier ≡ s.earlier
     → IsBookOf t (es ++ e ∷ [])
-book_after_cancelled s t es e n p x y sums follows kind same is ends c kept states first recorded next count tried keys last older =
+book_after_cancelled s t es e n p x y sums follows kind same is ends c kept states first recorded next marks count tried keys last older =
     let waits : Waits es n = subst (MayFollow es) kind follows in
     let end = ends (times_tried es n) (state_read s es n p x sums waits same is) in
     subst (λ e. IsBookOf t (es ++ e ∷ [])) (sym kind) (record {
@@ -223,6 +226,7 @@ book_after_cancelled s t es e n p x y sums follows kind same is ends c kept stat
       first_waiting = first;
       recorded = recorded ∙ sums.recorded ∙ sym (recorded-same es (Cancelled n) refl);
       next = next ∙ sums.next ∙ sym (next_after_cancelled es n);
+      heard = marks ∙ sums.heard ∙ sym (heard_same es (Cancelled n) refl);
       tries = tried ∙ sums.tries ∙ sym (same_tries es (Cancelled n) refl);
       keys = subst (λ ks. HasKeys ks (es ++ Cancelled n ∷ [])) (sym keys) (keys_as_before s.keys.items es (Cancelled n) tt sums.keys);
       earlier = older ∙ sums.earlier ∙ sym (earlier-snoc es (Cancelled n) refl);
@@ -230,33 +234,35 @@ book_after_cancelled s t es e n p x y sums follows kind same is ends c kept stat
       count = one_more_entry s.count t.count es (Cancelled n) count sums.count;
     })
 
-pub book_after_raised : (s t : Book) (es : List Entry) (e : Entry) (next : ℕ) → IsBookOf s es → e ≡ Raised next
+pub book_after_raised : (s t : Book) (es : List Entry) (e : Entry) (next hd : ℕ) → IsBookOf s es → e ≡ Raised next hd
     → t.contents.items ≡ s.contents.items → t.states.items ≡ s.states.items
-    → t.first_waiting ≡ s.first_waiting → t.recorded ≡ s.recorded → t.next ≡ next → t.count ≡ s.count + 1 → t.tries.items ≡ s.tries.items → t.keys.items ≡ s.keys.items → t.last_key ≡ None → t.earlier ≡ s.earlier
+    → t.first_waiting ≡ s.first_waiting → t.recorded ≡ s.recorded → t.next ≡ next → t.heard ≡ max s.heard hd → t.count ≡ s.count + 1 → t.tries.items ≡ s.tries.items → t.keys.items ≡ s.keys.items → t.last_key ≡ None → t.earlier ≡ s.earlier
     → IsBookOf t (es ++ e ∷ [])
-book_after_raised s t es e next sums kind kept states first recorded is_next count tried keys last older = subst (λ e. IsBookOf t (es ++ e ∷ [])) (sym kind) (record {
-  contents = subst (λ cs. HasContents cs (es ++ Raised next ∷ [])) (sym kept) (contents_after_other s.contents.items es (Raised next) refl (states_after_raised es next) sums.contents);
-  states = states ∙ sums.states ∙ sym (states_after_raised es next);
+book_after_raised s t es e next hd sums kind kept states first recorded is_next marks count tried keys last older = subst (λ e. IsBookOf t (es ++ e ∷ [])) (sym kind) (record {
+  contents = subst (λ cs. HasContents cs (es ++ Raised next hd ∷ [])) (sym kept) (contents_after_other s.contents.items es (Raised next hd) refl (states_after_raised es next hd) sums.contents);
+  states = states ∙ sums.states ∙ sym (states_after_raised es next hd);
   first_waiting = subst (λ ss. IsFirstWaiting ss t.first_waiting) (sym states) (subst (IsFirstWaiting s.states.items) (sym first) sums.first_waiting);
-  recorded = recorded ∙ sums.recorded ∙ sym (recorded-same es (Raised next) refl);
-  next = is_next ∙ sym (next_after_raised es next);
-  tries = tried ∙ sums.tries ∙ sym (same_tries es (Raised next) refl);
-  keys = subst (λ ks. HasKeys ks (es ++ Raised next ∷ [])) (sym keys) (keys_as_before s.keys.items es (Raised next) tt sums.keys);
-  earlier = older ∙ sums.earlier ∙ sym (earlier-snoc es (Raised next) refl);
-  last_key = last ∙ sym (last_key_after es (Raised next));
-  count = one_more_entry s.count t.count es (Raised next) count sums.count;
+  recorded = recorded ∙ sums.recorded ∙ sym (recorded-same es (Raised next hd) refl);
+  next = is_next ∙ sym (next_after_raised es next hd);
+  heard = marks ∙ ap (λ k. max k hd) sums.heard ∙ sym (heard-snoc es (Raised next hd));
+  tries = tried ∙ sums.tries ∙ sym (same_tries es (Raised next hd) refl);
+  keys = subst (λ ks. HasKeys ks (es ++ Raised next hd ∷ [])) (sym keys) (keys_as_before s.keys.items es (Raised next hd) tt sums.keys);
+  earlier = older ∙ sums.earlier ∙ sym (earlier-snoc es (Raised next hd) refl);
+  last_key = last ∙ sym (last_key_after es (Raised next hd));
+  count = one_more_entry s.count t.count es (Raised next hd) count sums.count;
 })
 
 pub book_after_key : (s t : Book) (es : List Entry) (e : Entry) (key : List ℕ) → IsBookOf s es → e ≡ Key key
     → t.contents.items ≡ s.contents.items → t.states.items ≡ s.states.items
-    → t.first_waiting ≡ s.first_waiting → t.recorded ≡ s.recorded → t.next ≡ s.next → t.count ≡ s.count + 1 → t.tries.items ≡ s.tries.items → t.keys.items ≡ s.keys.items → t.last_key ≡ Some key → t.earlier ≡ s.earlier
+    → t.first_waiting ≡ s.first_waiting → t.recorded ≡ s.recorded → t.next ≡ s.next → t.heard ≡ s.heard → t.count ≡ s.count + 1 → t.tries.items ≡ s.tries.items → t.keys.items ≡ s.keys.items → t.last_key ≡ Some key → t.earlier ≡ s.earlier
     → IsBookOf t (es ++ e ∷ [])
-book_after_key s t es e key sums kind kept states first recorded next count tried keys last older = subst (λ e. IsBookOf t (es ++ e ∷ [])) (sym kind) (record {
+book_after_key s t es e key sums kind kept states first recorded next marks count tried keys last older = subst (λ e. IsBookOf t (es ++ e ∷ [])) (sym kind) (record {
   contents = subst (λ cs. HasContents cs (es ++ Key key ∷ [])) (sym kept) (contents_after_other s.contents.items es (Key key) refl (states_after_key es key) sums.contents);
   states = states ∙ sums.states ∙ sym (states_after_key es key);
   first_waiting = subst (λ ss. IsFirstWaiting ss t.first_waiting) (sym states) (subst (IsFirstWaiting s.states.items) (sym first) sums.first_waiting);
   recorded = recorded ∙ sums.recorded ∙ sym (recorded-same es (Key key) refl);
   next = next ∙ sums.next ∙ sym (next_after_key es key);
+  heard = marks ∙ sums.heard ∙ sym (heard_same es (Key key) refl);
   tries = tried ∙ sums.tries ∙ sym (same_tries es (Key key) refl);
   keys = subst (λ ks. HasKeys ks (es ++ Key key ∷ [])) (sym keys) (keys_as_before s.keys.items es (Key key) tt sums.keys);
   earlier = older ∙ sums.earlier ∙ sym (earlier-snoc es (Key key) refl);
@@ -265,32 +271,33 @@ book_after_key s t es e key sums kind kept states first recorded next count trie
 })
 
 -- A ledger that goes on from an older one has no entry before that.
-pub book_after_renewed : (s t : Book) (es : List Entry) (e : Entry) (older : ℕ) → IsBookOf s es → MayFollow es e → e ≡ Renewed older
+pub book_after_renewed : (s t : Book) (es : List Entry) (e : Entry) (older hd : ℕ) → IsBookOf s es → MayFollow es e → e ≡ Renewed older hd
     → t.contents.items ≡ s.contents.items → t.states.items ≡ s.states.items
-    → t.first_waiting ≡ s.first_waiting → t.recorded ≡ s.recorded → t.next ≡ s.next → t.count ≡ s.count + 1 → t.tries.items ≡ s.tries.items → t.keys.items ≡ s.keys.items → t.last_key ≡ None → t.earlier ≡ older
+    → t.first_waiting ≡ s.first_waiting → t.recorded ≡ s.recorded → t.next ≡ s.next → t.heard ≡ max s.heard hd → t.count ≡ s.count + 1 → t.tries.items ≡ s.tries.items → t.keys.items ≡ s.keys.items → t.last_key ≡ None → t.earlier ≡ older
     → IsBookOf t (es ++ e ∷ [])
-book_after_renewed s t es e older sums follows kind kept states first recorded next count tried keys last is =
+book_after_renewed s t es e older hd sums follows kind kept states first recorded next marks count tried keys last is =
     let none : es ≡ [] = subst (MayFollow es) kind follows in
     let new : IsBookOf s [] = subst (IsBookOf s) none sums in
     subst (λ es. IsBookOf t (es ++ e ∷ [])) (sym none) (subst (λ e. IsBookOf t (e ∷ [])) (sym kind) (record {
       earlier = is;
-      contents = subst (λ cs. HasContents cs (Renewed older ∷ [])) (sym kept) (contents_after_other s.contents.items [] (Renewed older) refl refl new.contents);
+      contents = subst (λ cs. HasContents cs (Renewed older hd ∷ [])) (sym kept) (contents_after_other s.contents.items [] (Renewed older hd) refl refl new.contents);
       states = states ∙ new.states;
       first_waiting = subst (λ ss. IsFirstWaiting ss t.first_waiting) (sym states) (subst (IsFirstWaiting s.states.items) (sym first) new.first_waiting);
       recorded = recorded ∙ new.recorded;
       next = next ∙ new.next;
+      heard = marks ∙ ap (λ k. max k hd) new.heard ∙ sym (heard-snoc [] (Renewed older hd));
       tries = tried ∙ new.tries;
-      keys = subst (λ ks. HasKeys ks (Renewed older ∷ [])) (sym keys) (keys_as_before s.keys.items [] (Renewed older) tt new.keys);
+      keys = subst (λ ks. HasKeys ks (Renewed older hd ∷ [])) (sym keys) (keys_as_before s.keys.items [] (Renewed older hd) tt new.keys);
       last_key = last;
-      count = one_more_entry s.count t.count [] (Renewed older) count new.count;
+      count = one_more_entry s.count t.count [] (Renewed older hd) count new.count;
     }))
 
 pub book_after_earlier : (s t : Book) (es : List Entry) (e : Entry) (n : ℕ) (key : List ℕ) → IsBookOf s es → MayFollow es e → e ≡ Earlier n key
     → t.contents.items ≡ s.contents.items → t.states.items ≡ s.states.items
-    → t.first_waiting ≡ s.first_waiting → t.recorded ≡ s.recorded → t.next ≡ s.next → t.count ≡ s.count + 1 → t.tries.items ≡ s.tries.items
+    → t.first_waiting ≡ s.first_waiting → t.recorded ≡ s.recorded → t.next ≡ s.next → t.heard ≡ s.heard → t.count ≡ s.count + 1 → t.tries.items ≡ s.tries.items
     → t.keys.items ≡ s.keys.items ++ record { key = key; number = n } ∷ [] → t.last_key ≡ None → t.earlier ≡ s.earlier
     → IsBookOf t (es ++ e ∷ [])
-book_after_earlier s t es e n key sums follows kind kept states first recorded next count tried keys last older =
+book_after_earlier s t es e n key sums follows kind kept states first recorded next marks count tried keys last older =
     let may : MayFollow es (Earlier n key) = subst (MayFollow es) kind follows in
     subst (λ e. IsBookOf t (es ++ e ∷ [])) (sym kind) (record {
       contents = subst (λ cs. HasContents cs (es ++ Earlier n key ∷ [])) (sym kept)
@@ -299,6 +306,7 @@ book_after_earlier s t es e n key sums follows kind kept states first recorded n
       first_waiting = subst (λ ss. IsFirstWaiting ss t.first_waiting) (sym states) (subst (IsFirstWaiting s.states.items) (sym first) sums.first_waiting);
       recorded = recorded ∙ sums.recorded ∙ sym (recorded-same es (Earlier n key) refl);
       next = next ∙ sums.next ∙ sym (next_after_earlier es n key);
+      heard = marks ∙ sums.heard ∙ sym (heard_same es (Earlier n key) refl);
       tries = tried ∙ sums.tries ∙ sym (same_tries es (Earlier n key) refl);
       keys = subst (λ ks. HasKeys ks (es ++ Earlier n key ∷ [])) (sym keys) (keys_after_earlier s.keys.items es key n may.0 may.1 sums.keys);
       earlier = older ∙ sums.earlier ∙ sym (earlier-snoc es (Earlier n key) refl);
@@ -398,18 +406,18 @@ recorded_no_more ss i k place t same inside h =
     cc
 
 -- Once one receipt is recorded, the first that waits is the first of the others.
-pub besides : (s : Book) (es : List Entry) (n place number tried : ℕ) (content : Content) → IsBookOf s es → Waits es n → StandsAt s place number content tried → place ≢ place_here es n
+pub besides : (s : Book) (es : List Entry) (n hd place number tried : ℕ) (content : Content) → IsBookOf s es → Waits es n → StandsAt s place number content tried → place ≢ place_here es n
     → ((k : ℕ) (x : ReceiptState) → k < place → k ≢ place_here es n → slice_get s.states.items k ≡ Some x → IsEnded x)
-    → FirstWaits (es ++ Recorded n ∷ []) number content tried × Waits (es ++ Recorded n ∷ []) number
-besides s es n place number tried content sums waits stands differ passed =
+    → FirstWaits (es ++ Recorded n hd ∷ []) number content tried × Waits (es ++ Recorded n hd ∷ []) number
+besides s es n hd place number tried content sums waits stands differ passed =
     let r : ReceiptState = state.Recorded (length (recorded es)) in
     let p : ℕ = place_here es n in
-    let more : List Entry = es ++ Recorded n ∷ [] in
-    let older : earlier more ≡ earlier es = earlier-snoc es (Recorded n) refl in
-    let now : states_of more ≡ set (states_of es) p r = recorded_states es n waits in
+    let more : List Entry = es ++ Recorded n hd ∷ [] in
+    let older : earlier more ≡ earlier es = earlier-snoc es (Recorded n hd) refl in
+    let now : states_of more ≡ set (states_of es) p r = recorded_states es n hd waits in
     let at : slice_get (states_of es) place ≡ Some (state.Waiting tried) = ap (λ ss. slice_get ss place) (sym sums.states) ∙ stands.waits in
     let at_now : slice_get (states_of more) place ≡ Some (state.Waiting tried) = ap (λ ss. slice_get ss place) now ∙ get-other (states_of es) p place r (state.Waiting tried) differ at in
-    let is : slice_get (contents more) place ≡ Some content = ap (λ cs. slice_get cs place) (contents-stay es (Recorded n) refl) ∙ kept_content s es place tried content sums at stands.kept in
+    let is : slice_get (contents more) place ≡ Some content = ap (λ cs. slice_get cs place) (contents-stay es (Recorded n hd) refl) ∙ kept_content s es place tried content sums at stands.kept in
     let same : number ≡ earlier more + place + 1 = omega (arith, stands.number_is, sums.earlier, older) in
     let back : place_here more number ≡ place = omega (arith, same) in (
       subst (λ m. FirstWaits more m content tried) (sym same) (first_of_states more place tried content is at_now
@@ -434,11 +442,11 @@ stands_waits s es place number tried content book stands =
     let back : place_here es number ≡ place = omega (arith, same) in
     (waits_by_state es number tried (omega (arith, same)) (ap (slice_get (states es)) back ∙ ap (λ ss. slice_get ss place) (sym book.states) ∙ stands.waits)).0
 
-besides_at : (s : Book) (es : List Entry) (n at number tried : ℕ) (content : Content) → IsBookOf s es → IsFirstBesides s.states.items (n - (1 + s.earlier)) at → Waits es n
-    → StandsAt s at number content tried → FirstWaits (es ++ Recorded n ∷ []) number content tried × Waits (es ++ Recorded n ∷ []) number
-besides_at s es n at number tried content sums first waits stands =
+besides_at : (s : Book) (es : List Entry) (n hd at number tried : ℕ) (content : Content) → IsBookOf s es → IsFirstBesides s.states.items (n - (1 + s.earlier)) at → Waits es n
+    → StandsAt s at number content tried → FirstWaits (es ++ Recorded n hd ∷ []) number content tried × Waits (es ++ Recorded n hd ∷ []) number
+besides_at s es n hd at number tried content sums first waits stands =
     let first_so : IsFirstBesides s.states.items (place_here es n) at = subst (λ k. IsFirstBesides s.states.items (n - (1 + k)) at) sums.earlier first in
-    besides s es n at number tried content sums waits stands (first_so.other (get-within s.states.items at (state.Waiting tried) stands.waits)) first_so.passed
+    besides s es n hd at number tried content sums waits stands (first_so.other (get-within s.states.items at (state.Waiting tried) stands.waits)) first_so.passed
 
 -- What is found at a place, as it is said of the first receipt that waits.
 pub first_found : (s : Book) (es : List Entry) (r : Option WaitingReceipt) → IsBookOf s es
@@ -452,11 +460,11 @@ first_found s es (Some first) book stands = (
 )
 
 -- And of the first of the others.
-pub others_found : (s : Book) (es : List Entry) (n at : ℕ) (r : Option WaitingReceipt) → IsBookOf s es → IsFirstBesides s.states.items (n - (1 + s.earlier)) at → Waits es n
+pub others_found : (s : Book) (es : List Entry) (n hd at : ℕ) (r : Option WaitingReceipt) → IsBookOf s es → IsFirstBesides s.states.items (n - (1 + s.earlier)) at → Waits es n
     → MatchOption r (length s.states.items ≤ at) (λ first. StandsAt s at first.number (content_with first.options first.content.now) first.tried)
-    → IfSome r (λ first. FirstWaits (es ++ Recorded n ∷ []) first.number (content_with first.options first.content.now) first.tried × Waits (es ++ Recorded n ∷ []) first.number)
-others_found s es n at None book first waits past = tt
-others_found s es n at (Some one) book first waits stands = besides_at s es n at one.number one.tried (content_with one.options one.content.now) book first waits stands
+    → IfSome r (λ first. FirstWaits (es ++ Recorded n hd ∷ []) first.number (content_with first.options first.content.now) first.tried × Waits (es ++ Recorded n hd ∷ []) first.number)
+others_found s es n hd at None book first waits past = tt
+others_found s es n hd at (Some one) book first waits stands = besides_at s es n hd at one.number one.tried (content_with one.options one.content.now) book first waits stands
 
 pub within_contents : (s : Book) (es : List Entry) (n p : ℕ) → IsBookOf s es → Waits es n → p ≡ n - (1 + s.earlier) → p < length s.contents.items
 within_contents s es n p book waits same = omega (arith, book.contents.count, within_states es n waits, length-states es, place_is s es n p book same)

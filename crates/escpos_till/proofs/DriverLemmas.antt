@@ -28,7 +28,7 @@ use Rattle.escpos_till.specs.declared.pause.Pause.{Pause}
 use Rattle.escpos_till.specs.declared.store.StoreFault.{StoreFault}
 use Rattle.escpos_till.specs.Driver.{Breaks, Confirms, Deed, DidAll, Ends, Gives, HangsUp, HearsAll, IsGiven, IsSaid, IsTelling, IsTold, Keeps, KeepsOne, Learns, MayGoWith, Links, Loses, Misses, Pauses, Puts, RanQuietly, RanUpTo, SaysNothing, Tells, TellsNothing, Turns}
 use Rattle.escpos_till.specs.declared.further.Further.{Further}
-use Rattle.escpos_till.specs.Further.{GoesFurther}
+use Rattle.escpos_till.specs.Further.{GoesFurther, heard_by}
 use Rattle.escpos_till.specs.Learning.{Learned, Revises}
 use Rattle.escpos_till.specs.Machine.{Asks, AsksIn, PutsFirst, Came, Ended, EndsFinally, Follows, IsFinal, news_in, news_of, told, GoesOn, HearsOne, Kept, MachineView, Opens, Rests, Submits, Turns as Turned, Unsure, connected, after_note, ended_by, entry_with, first_talk, hung_up, lost, next_talk, not_connected, pause_news, printed, put, with_left, with_pause, with_sent}
 
@@ -150,16 +150,16 @@ hears_on m after bytes heard count talk is fewer came =
 not_at : (s other : Stage) → s ≡ other → (Rests other → ⊥) → Rests s → ⊥
 not_at s other is never = λ rests. never (subst Rests is rests)
 
-opens_not : (due : Due) (first : ℕ) (h : HostView) (s : Stage) → Opens due first h s → Rests s → ⊥
-opens_not due first h s (inl it) = not_at s (stage.Talking (first_talk due)) it.1 (λ h. h)
-opens_not due first h s (inr (why, refused, is)) = not_at s (stage.HangingUp (note.Waiting due.number (fault.Refused why))) is (λ h. h)
+opens_not : (due : Due) (first heard : ℕ) (h : HostView) (s : Stage) → Opens due first heard h s → Rests s → ⊥
+opens_not due first heard h s (inl it) = not_at s (stage.Talking (first_talk due)) it.1 (λ h. h)
+opens_not due first heard h s (inr (why, refused, is)) = not_at s (stage.HangingUp (note.Waiting due.number (fault.Refused why))) is (λ h. h)
 
 follows_not : (next : Then) (before : HostView) (first : ℕ) (b : Book) (h : HostView) (s : Stage) → Follows next before first b h s → Rests s → ⊥
 follows_not then.Queued before first b h s (number, count, same, is) = not_at s (stage.Telling (note.Queued number)) is (λ h. h)
 follows_not (then.Take content) before first b h s (same, is) = not_at s (stage.Keeping (entry.Queued content) then.Queued) is (λ h. h)
 follows_not then.Raised before first b h s (same, is) = not_at s (stage.Telling note.Raised) is (λ h. h)
 follows_not (then.Cancelled number tried) before first b h s (same, is) = not_at s (stage.Telling (note.Cancelled number tried)) is (λ h. h)
-follows_not (then.Send due) before first b h s opens = opens_not due first h s opens
+follows_not (then.Send due) before first b h s opens = opens_not due first b.heard h s opens
 follows_not (then.Recorded number) before first b h s (drops, is) = not_at s (stage.HangingUp (note.Recorded number)) is (λ h. h)
 follows_not (then.GoOn number tried due) before first b h s (same, is) = not_at s (stage.Keeping tried (then.SendNext number due)) is (λ h. h)
 follows_not (then.SendNext number due) before first b h s (inl (sends, is)) = not_at s (stage.Talking (next_talk number due)) is (λ h. h)
@@ -181,15 +181,15 @@ kept_not s e next m after is kept = follows_not next m.host m.book.next after.bo
 unsure_not : (s : Stage) (e : Entry) (next : Then) (why : StoreFault) (m after : MachineView) → s ≡ stage.Keeping e next → Unsure s why m after → Rests after.stage → ⊥
 unsure_not s e next why m after is unsure = not_at after.stage (lost next why) (subst (λ at. Unsure at why m after) is unsure).2 (lost_not next why)
 
-recorded_not : (b : Book) (n : ℕ) (further : Option Further) (before : HostView) (s : Stage) → (s ≡ printed n) ⊎ GoesFurther b n further before s → Rests s → ⊥
-recorded_not b n further before s (inl is) = not_at s (printed n) is (λ h. h)
-recorded_not b n further before s (inr goes) = not_at s (stage.Keeping (entry.Recorded n) (then.GoOn n (entry.Tried goes.due.number (b.next + 1)) goes.due)) goes.stage_is (λ h. h)
+recorded_not : (b : Book) (n : ℕ) (further : Option Further) (before : HostView) (s : Stage) → (s ≡ printed b n before) ⊎ GoesFurther b n further before s → Rests s → ⊥
+recorded_not b n further before s (inl is) = not_at s (printed b n before) is (λ h. h)
+recorded_not b n further before s (inr goes) = not_at s (stage.Keeping (entry.Recorded n (heard_by b before)) (then.GoOn n (entry.Tried goes.due.number (b.next + 1)) goes.due)) goes.stage_is (λ h. h)
 
 revised_not : (next : Then) (b : Book) (before h : HostView) (s : Stage) → Revises next b before h s → Rests s → ⊥
 revised_not (then.Send due) b before h s (inl (waits, marks, same, is)) = not_at s (stage.Keeping (entry.Tried due.number (b.next + marks_taken due.openings)) (then.Send due)) is (λ h. h)
 revised_not (then.Send due) b before h s (inr (inl (waits, none, drops, is))) = not_at s (stage.HangingUp (note.Waiting due.number (fault.Refused error.MarksUsedUp))) is (λ h. h)
 revised_not (then.Send due) b before h s (inr (inr (tried, cancelled, drops, is))) = not_at s (stage.HangingUp (note.Cancelled due.number tried)) is (λ h. h)
-revised_not (then.Recorded n) b before h s (inl (waits, same, is)) = not_at s (printed n) is (λ h. h)
+revised_not (then.Recorded n) b before h s (inl (waits, same, is)) = not_at s (printed b n before) is (λ h. h)
 revised_not (then.Recorded n) b before h s (inr (tried, cancelled, drops, is)) = not_at s (stage.HangingUp (note.Cancelled n tried)) is (λ h. h)
 revised_not (then.GoOn n tried due) b before h s (inl (waits, same, goes)) = recorded_not b n due.further before s goes
 revised_not (then.GoOn n tried due) b before h s (inr (times, cancelled, drops, is)) = not_at s (stage.HangingUp (note.Cancelled n times)) is (λ h. h)
@@ -223,7 +223,7 @@ turned_not : (b : Book) (e : HostEvent) (talk : Talk) (left : ℕ) (before h : H
 turned_not b event.None talk left before h s goes = on_not talk left before h s goes
 turned_not b (event.Status byte) talk left before h s goes = on_not talk left before h s goes
 turned_not b (event.Condition block) talk left before h s (p, after, goes) = on_not (with_pause talk p) left before h s goes
-turned_not b (event.Late id) talk left before h s (inl (closes, same, is)) = not_at s (printed talk.number) is (λ h. h)
+turned_not b (event.Late id) talk left before h s (inl (closes, same, is)) = not_at s (printed b talk.number before) is (λ h. h)
 turned_not b (event.Late id) talk left before h s (inr (other, goes)) = on_not talk left before h s goes
 turned_not b event.Opened talk left before h s goes = submits_not talk talk.receipt left before h s goes
 turned_not b (event.Recorded place) talk left before h s (same, goes) = recorded_not b talk.number talk.further before s goes

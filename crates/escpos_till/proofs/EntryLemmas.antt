@@ -1,5 +1,5 @@
 -- What one more entry does to what the entries say.
-use Rattle.std.proofs.Common.{ℕ, zero, suc, ◌≡◌, ◌≢◌, ◌+◌, ◌-◌, ◌<◌, ◌≤◌, ◌⊎◌, inl, inr, Bool, true, false, cond, Option, Some, None, List, [], ◌∷◌, ◌++◌, length, map, set, get_or, take, drop, refl, sym, ◌∙◌, ap, subst, append-nil, append_assoc, length-append, add-zero, add-one, zero-add, arith}
+use Rattle.std.proofs.Common.{ℕ, zero, suc, ◌≡◌, ◌≢◌, ◌+◌, ◌-◌, ◌<◌, ◌≤◌, ◌⊎◌, inl, inr, Bool, true, false, cond, Option, Some, None, List, [], ◌∷◌, ◌++◌, length, map, set, get_or, take, drop, max, refl, sym, ◌∙◌, ap, subst, append-nil, append_assoc, length-append, add-zero, add-one, zero-add, arith}
 use Rattle.std.specs.Prelude.{◌==◌, ◌&&◌, is_none, filter, slice_get}
 use Rattle.std.specs.List.{filter_map, position_from}
 use Rattle.std.proofs.lemmas.Bool.Decides.{nat_tests}
@@ -13,7 +13,10 @@ use Rattle.escpos_till.specs.declared.entry.Entry.{Entry}
 use Rattle.escpos_till.specs.declared.entry.Entry.TheVariants.{Queued, Tried, Recorded, Raised, Cancelled, Key, Renewed, Earlier}
 use Rattle.escpos_till.specs.declared.state.ReceiptState.TheVariants as state
 use Rattle.escpos_till.specs.Delivers.{FirstWaits}
-use Rattle.escpos_till.specs.Entries.{IsLedger, MayFollow, Taken, Waits, cancel_of, cancel_place_of, cancelled, content_of, contents, earlier, earlier_of, is_open, is_try_of, last_number, last_or, next_free, next_of, numbered_from, place_here, place_of, record_of, recorded, state_by, state_of, states, taken, times_tried, waiting}
+use Rattle.escpos_host.specs.Machine.{number_limit}
+use Rattle.escpos_till.specs.declared.tries.Try.{Try}
+use Rattle.escpos_till.specs.Tries.{end_of_tries, last_or, tries}
+use Rattle.escpos_till.specs.Entries.{IsLedger, MayFollow, Taken, Waits, cancel_of, cancel_place_of, cancelled, content_of, contents, earlier, earlier_of, heard, heard_after, heard_said, is_open, is_try_of, last_number, next_free, next_of, numbered_from, place_here, place_of, record_of, recorded, state_by, state_of, states, taken, times_tried, waiting}
 
 -- ## Tests and places
 
@@ -136,14 +139,14 @@ nexts-snoc es e = filter_map-append next_of es (e ∷ [])
 pub next_after_tried : (es : List Entry) (n next : ℕ) → next_free (es ++ Tried n next ∷ []) ≡ next
 next_after_tried es n next = ap (last_or 0) (nexts-snoc es (Tried n next)) ∙ last-snoc 0 (filter_map next_of es) next
 
-pub next_after_raised : (es : List Entry) (next : ℕ) → next_free (es ++ Raised next ∷ []) ≡ next
-next_after_raised es next = ap (last_or 0) (nexts-snoc es (Raised next)) ∙ last-snoc 0 (filter_map next_of es) next
+pub next_after_raised : (es : List Entry) (next hd : ℕ) → next_free (es ++ Raised next hd ∷ []) ≡ next
+next_after_raised es next hd = ap (last_or 0) (nexts-snoc es (Raised next hd)) ∙ last-snoc 0 (filter_map next_of es) next
 
 pub next_after_queued : (es : List Entry) (content : Content) → next_free (es ++ Queued content ∷ []) ≡ next_free es
 next_after_queued es content = ap (last_or 0) (nexts-snoc es (Queued content) ∙ append-nil (filter_map next_of es))
 
-pub next_after_recorded : (es : List Entry) (n : ℕ) → next_free (es ++ Recorded n ∷ []) ≡ next_free es
-next_after_recorded es n = ap (last_or 0) (nexts-snoc es (Recorded n) ∙ append-nil (filter_map next_of es))
+pub next_after_recorded : (es : List Entry) (n hd : ℕ) → next_free (es ++ Recorded n hd ∷ []) ≡ next_free es
+next_after_recorded es n hd = ap (last_or 0) (nexts-snoc es (Recorded n hd) ∙ append-nil (filter_map next_of es))
 
 pub next_after_cancelled : (es : List Entry) (n : ℕ) → next_free (es ++ Cancelled n ∷ []) ≡ next_free es
 next_after_cancelled es n = ap (last_or 0) (nexts-snoc es (Cancelled n) ∙ append-nil (filter_map next_of es))
@@ -151,11 +154,29 @@ next_after_cancelled es n = ap (last_or 0) (nexts-snoc es (Cancelled n) ∙ appe
 pub next_after_earlier : (es : List Entry) (n : ℕ) (key : List ℕ) → next_free (es ++ Earlier n key ∷ []) ≡ next_free es
 next_after_earlier es n key = ap (last_or 0) (nexts-snoc es (Earlier n key) ∙ append-nil (filter_map next_of es))
 
-pub next_after_renewed : (es : List Entry) (last : ℕ) → next_free (es ++ Renewed last ∷ []) ≡ next_free es
-next_after_renewed es last = ap (last_or 0) (nexts-snoc es (Renewed last) ∙ append-nil (filter_map next_of es))
+pub next_after_renewed : (es : List Entry) (last hd : ℕ) → next_free (es ++ Renewed last hd ∷ []) ≡ next_free es
+next_after_renewed es last hd = ap (last_or 0) (nexts-snoc es (Renewed last hd) ∙ append-nil (filter_map next_of es))
 
 pub next_after_key : (es : List Entry) (key : List ℕ) → next_free (es ++ Key key ∷ []) ≡ next_free es
 next_after_key es key = ap (last_or 0) (nexts-snoc es (Key key) ∙ append-nil (filter_map next_of es))
+
+-- ## What is heard
+
+heard_step : (before es : List Entry) (most : ℕ) (e : Entry) → heard_after before most (es ++ e ∷ []) ≡ max (heard_after before most es) (heard_said (before ++ es) e)
+heard_step before [] most e = ap (λ front. max most (heard_said front e)) (sym (append-nil before))
+heard_step before (x ∷ es) most e =
+    heard_step (before ++ x ∷ []) es (max most (heard_said before x)) e
+    ∙ ap (λ front. max (heard_after (before ++ x ∷ []) (max most (heard_said before x)) es) (heard_said front e)) (append_assoc before (x ∷ []) es)
+
+pub heard-snoc : (es : List Entry) (e : Entry) → heard (es ++ e ∷ []) ≡ max (heard es) (heard_said es e)
+heard-snoc es e = heard_step [] es 0 e
+
+-- By an entry that says nothing of it.
+pub heard_same : (es : List Entry) (e : Entry) → heard_said es e ≡ 0 → heard (es ++ e ∷ []) ≡ heard es
+heard_same es e h = heard-snoc es e ∙ ap (max (heard es)) h ∙ omega arith
+
+pub heard_grows : (es : List Entry) (e : Entry) → heard es ≤ heard (es ++ e ∷ [])
+heard_grows es e = omega (arith, heard-snoc es e)
 
 -- ## The older ledger
 
@@ -241,14 +262,14 @@ unknown_in before (Tried m next ∷ es) n h few =
     let other : (m == n) ≡ false = is_other m n (below_count before (Tried m next ∷ es) m n (first_follows before (Tried m next) es h).0 few) in
     let none : one_if (m == n) ≡ 0 = ap one_if other in
     (omega (arith, times-cons es (Tried m next) n, rest.0, none), rest.1, rest.2)
-unknown_in before (Recorded m ∷ es) n h few =
-    let rest = unknown_in (before ++ Recorded m ∷ []) es n (continues_later before (Recorded m) es h)
-    (subst (λ front. last_number front < n) (sym (append_assoc before (Recorded m ∷ []) es)) few) in
-    let other : (m == n) ≡ false = is_other m n (below_count before (Recorded m ∷ es) m n (first_follows before (Recorded m) es h).0 few) in
+unknown_in before (Recorded m hd ∷ es) n h few =
+    let rest = unknown_in (before ++ Recorded m hd ∷ []) es n (continues_later before (Recorded m hd) es h)
+    (subst (λ front. last_number front < n) (sym (append_assoc before (Recorded m hd ∷ []) es)) few) in
+    let other : (m == n) ≡ false = is_other m n (below_count before (Recorded m hd ∷ es) m n (first_follows before (Recorded m hd) es h).0 few) in
     (omega (arith, rest.0), λ i. ap (λ b. cond b (Some i) (position_from (λ k. k == n) (i + 1) (recorded es))) other ∙ rest.1 (i + 1), rest.2)
-unknown_in before (Raised next ∷ es) n h few =
-    let rest = unknown_in (before ++ Raised next ∷ []) es n (continues_later before (Raised next) es h)
-    (subst (λ front. last_number front < n) (sym (append_assoc before (Raised next ∷ []) es)) few) in
+unknown_in before (Raised next hd ∷ es) n h few =
+    let rest = unknown_in (before ++ Raised next hd ∷ []) es n (continues_later before (Raised next hd) es h)
+    (subst (λ front. last_number front < n) (sym (append_assoc before (Raised next hd ∷ []) es)) few) in
     (omega (arith, rest.0), rest.1, rest.2)
 unknown_in before (Cancelled m ∷ es) n h few =
     let rest = unknown_in (before ++ Cancelled m ∷ []) es n (continues_later before (Cancelled m) es h)
@@ -259,9 +280,9 @@ unknown_in before (Key key ∷ es) n h few =
     let rest = unknown_in (before ++ Key key ∷ []) es n (continues_later before (Key key) es h)
     (subst (λ front. last_number front < n) (sym (append_assoc before (Key key ∷ []) es)) few) in
     (omega (arith, rest.0), rest.1, rest.2)
-unknown_in before (Renewed last ∷ es) n h few =
-    let rest = unknown_in (before ++ Renewed last ∷ []) es n (continues_later before (Renewed last) es h)
-    (subst (λ front. last_number front < n) (sym (append_assoc before (Renewed last ∷ []) es)) few) in
+unknown_in before (Renewed last hd ∷ es) n h few =
+    let rest = unknown_in (before ++ Renewed last hd ∷ []) es n (continues_later before (Renewed last hd) es h)
+    (subst (λ front. last_number front < n) (sym (append_assoc before (Renewed last hd ∷ []) es)) few) in
     (omega (arith, rest.0), rest.1, rest.2)
 unknown_in before (Earlier m key ∷ es) n h few =
     let rest = unknown_in (before ++ Earlier m key ∷ []) es n (continues_later before (Earlier m key) es h)
@@ -270,6 +291,34 @@ unknown_in before (Earlier m key ∷ es) n h few =
 
 unknown : (es : List Entry) (n : ℕ) → IsLedger es → last_number es < n → IsUnknown es n
 unknown es n ledger few = unknown_in [] es n ledger few
+
+-- The numbers of marks are below the limit, also the one after the closing mark of a try.
+last_kept : (b : Bool) (m n : ℕ) (t : Try) (ts : List Try) → m ≤ number_limit → t.closing + 1 ≤ number_limit
+    → ((k : ℕ) → k ≤ number_limit → last_or k (map (λ t. t.closing + 1) (filter (λ t. t.number == n) ts)) ≤ number_limit)
+    → last_or m (map (λ t. t.closing + 1) (cond b (t ∷ filter (λ t. t.number == n) ts) (filter (λ t. t.number == n) ts))) ≤ number_limit
+last_kept true m n t ts few this others = others (t.closing + 1) this
+last_kept false m n t ts few this others = others m few
+
+ends_in : (before es : List Entry) (n m : ℕ) → Continues before es → m ≤ number_limit → last_or m (map (λ t. t.closing + 1) (filter (λ t. t.number == n) (tries es))) ≤ number_limit
+ends_in before [] n m h few = few
+ends_in before (Queued content ∷ es) n m h few = ends_in (before ++ Queued content ∷ []) es n m (continues_later before (Queued content) es h) few
+ends_in before (Tried k next ∷ es) n m h few =
+    let follows = first_follows before (Tried k next) es h in
+    last_kept (k == n) m n (record { number = k; closing = next - 1 }) (tries es) few (omega (arith, follows.1, follows.2))
+    (λ j few. ends_in (before ++ Tried k next ∷ []) es n j (continues_later before (Tried k next) es h) few)
+ends_in before (Recorded k hd ∷ es) n m h few = ends_in (before ++ Recorded k hd ∷ []) es n m (continues_later before (Recorded k hd) es h) few
+ends_in before (Raised next hd ∷ es) n m h few = ends_in (before ++ Raised next hd ∷ []) es n m (continues_later before (Raised next hd) es h) few
+ends_in before (Cancelled k ∷ es) n m h few = ends_in (before ++ Cancelled k ∷ []) es n m (continues_later before (Cancelled k) es h) few
+ends_in before (Key key ∷ es) n m h few = ends_in (before ++ Key key ∷ []) es n m (continues_later before (Key key) es h) few
+ends_in before (Renewed last hd ∷ es) n m h few = ends_in (before ++ Renewed last hd ∷ []) es n m (continues_later before (Renewed last hd) es h) few
+ends_in before (Earlier k key ∷ es) n m h few = ends_in (before ++ Earlier k key ∷ []) es n m (continues_later before (Earlier k key) es h) few
+
+pub ends_within : (es : List Entry) (n : ℕ) → IsLedger es → end_of_tries (tries es) n ≤ number_limit
+ends_within es n ledger = ends_in [] es n 0 ledger (omega arith)
+
+-- A record without a number says that of the last try.
+pub said_none : (es : List Entry) (n hd end : ℕ) → hd ≡ 0 → end ≡ end_of_tries (tries es) n → end ≡ heard_said es (Recorded n hd)
+said_none es n hd end none is = is ∙ ap (λ k. heard_said es (Recorded n k)) (sym none)
 
 -- ## States
 
@@ -307,8 +356,8 @@ states_stay es e older content records cancel try =
     ∙ numbered-same (state_of es) (state_of more) (1 + earlier es) (contents es)
     (λ k le. state_at more es k k (same_place es e k records) (same_cancel es e k cancel) (same_times es e k (try k)))
 
-pub states_after_raised : (es : List Entry) (next : ℕ) → states (es ++ Raised next ∷ []) ≡ states es
-states_after_raised es next = states_stay es (Raised next) refl refl refl refl (λ n. refl)
+pub states_after_raised : (es : List Entry) (next hd : ℕ) → states (es ++ Raised next hd ∷ []) ≡ states es
+states_after_raised es next hd = states_stay es (Raised next hd) refl refl refl refl (λ n. refl)
 
 pub states_after_key : (es : List Entry) (key : List ℕ) → states (es ++ Key key ∷ []) ≡ states es
 states_after_key es key = states_stay es (Key key) refl refl refl refl (λ n. refl)
@@ -330,11 +379,11 @@ states_after_tried es d next waits uncancelled within =
     (λ k other. state_at more es k k (same_place es e k refl) (same_cancel es e k refl) (same_times es e k (is_other n k (λ q. other (sym q))))) refl within
     ∙ ap (set (states es) d) here
 
-pub states_after_recorded : (es : List Entry) (d : ℕ) → place_of es (1 + earlier es + d) ≡ None → d < length (contents es)
-    → states (es ++ Recorded (1 + earlier es + d) ∷ []) ≡ set (states es) d (state.Recorded (length (recorded es)))
-states_after_recorded es d waits within =
+pub states_after_recorded : (es : List Entry) (d hd : ℕ) → place_of es (1 + earlier es + d) ≡ None → d < length (contents es)
+    → states (es ++ Recorded (1 + earlier es + d) hd ∷ []) ≡ set (states es) d (state.Recorded (length (recorded es)))
+states_after_recorded es d hd waits within =
     let n : ℕ = 1 + earlier es + d in
-    let e : Entry = Recorded n in
+    let e : Entry = Recorded n hd in
     let more : List Entry = es ++ e ∷ [] in
     let place : place_of more n ≡ Some (length (recorded es)) =
     ap (position_from (λ m. m == n) 0) (recorded-snoc es e) ∙ position-hit (λ m. m == n) 0 (recorded es) n waits (is_self n) ∙ ap Some (zero-add (length (recorded es))) in
@@ -389,11 +438,11 @@ tried_states es n next w =
     (states_after_tried es (place_here es n) next (subst (λ k. place_of es k ≡ None) (sym e) w.open_still) (subst (λ k. cancel_place_of es k ≡ None) (sym e) w.not_cancelled)
     (waits_within es n w))
 
-pub recorded_states : (es : List Entry) (n : ℕ) → Waits es n → states (es ++ Recorded n ∷ []) ≡ set (states es) (place_here es n) (state.Recorded (length (recorded es)))
-recorded_states es n w =
+pub recorded_states : (es : List Entry) (n hd : ℕ) → Waits es n → states (es ++ Recorded n hd ∷ []) ≡ set (states es) (place_here es n) (state.Recorded (length (recorded es)))
+recorded_states es n hd w =
     let e = one_after es n w.here in
-    subst (λ k. states (es ++ Recorded k ∷ []) ≡ set (states es) (place_here es n) (state.Recorded (length (recorded es)))) e
-    (states_after_recorded es (place_here es n) (subst (λ k. place_of es k ≡ None) (sym e) w.open_still) (waits_within es n w))
+    subst (λ k. states (es ++ Recorded k hd ∷ []) ≡ set (states es) (place_here es n) (state.Recorded (length (recorded es)))) e
+    (states_after_recorded es (place_here es n) hd (subst (λ k. place_of es k ≡ None) (sym e) w.open_still) (waits_within es n w))
 
 pub cancelled_states : (es : List Entry) (n : ℕ) → Waits es n → states (es ++ Cancelled n ∷ []) ≡ set (states es) (place_here es n) (state.Cancelled (times_tried es n))
 cancelled_states es n w =
@@ -402,8 +451,8 @@ cancelled_states es n w =
     (states_after_cancelled es (place_here es n) (subst (λ k. place_of es k ≡ None) (sym e) w.open_still) (subst (λ k. cancel_place_of es k ≡ None) (sym e) w.not_cancelled)
     (waits_within es n w))
 
-pub recorded-count : (es : List Entry) (n : ℕ) → length (recorded (es ++ Recorded n ∷ [])) ≡ length (recorded es) + 1
-recorded-count es n = ap length (recorded-snoc es (Recorded n)) ∙ length-append (recorded es) (n ∷ [])
+pub recorded-count : (es : List Entry) (n hd : ℕ) → length (recorded (es ++ Recorded n hd ∷ [])) ≡ length (recorded es) + 1
+recorded-count es n hd = ap length (recorded-snoc es (Recorded n hd)) ∙ length-append (recorded es) (n ∷ [])
 
 pub recorded-same : (es : List Entry) (e : Entry) → recorded (e ∷ []) ≡ [] → length (recorded (es ++ e ∷ [])) ≡ length (recorded es)
 recorded-same es e h = ap length (same_recorded es e h)
@@ -440,11 +489,11 @@ pub few_records : (es : List Entry) → length (recorded es) ≤ length es
 few_records [] = omega arith
 few_records (Queued content ∷ es) = omega (arith, few_records es)
 few_records (Tried n next ∷ es) = omega (arith, few_records es)
-few_records (Recorded n ∷ es) = omega (arith, few_records es)
-few_records (Raised next ∷ es) = omega (arith, few_records es)
+few_records (Recorded n hd ∷ es) = omega (arith, few_records es)
+few_records (Raised next hd ∷ es) = omega (arith, few_records es)
 few_records (Cancelled n ∷ es) = omega (arith, few_records es)
 few_records (Key key ∷ es) = omega (arith, few_records es)
-few_records (Renewed last ∷ es) = omega (arith, few_records es)
+few_records (Renewed last hd ∷ es) = omega (arith, few_records es)
 few_records (Earlier n key ∷ es) = omega (arith, few_records es)
 
 pub count_states : (es : List Entry) → length (states es) ≡ length (taken es)

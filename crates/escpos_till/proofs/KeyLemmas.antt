@@ -108,10 +108,10 @@ key_is : (e : Entry) (k : List ℕ) → key_of e ≡ Some k → e ≡ Key k
 key_is (Key j) k h = ap Key (same_Some j k h)
 key_is (Queued content) k h = absurd (let bad : None ≡ Some k = h in cc)
 key_is (Tried n next) k h = absurd (let bad : None ≡ Some k = h in cc)
-key_is (Recorded n) k h = absurd (let bad : None ≡ Some k = h in cc)
-key_is (Raised next) k h = absurd (let bad : None ≡ Some k = h in cc)
+key_is (Recorded n hd) k h = absurd (let bad : None ≡ Some k = h in cc)
+key_is (Raised next hd) k h = absurd (let bad : None ≡ Some k = h in cc)
 key_is (Cancelled n) k h = absurd (let bad : None ≡ Some k = h in cc)
-key_is (Renewed last) k h = absurd (let bad : None ≡ Some k = h in cc)
+key_is (Renewed last hd) k h = absurd (let bad : None ≡ Some k = h in cc)
 key_is (Earlier n key) k h = absurd (let bad : None ≡ Some k = h in cc)
 
 ends_so : (key : Option (List ℕ)) (es : List Entry) (k : List ℕ) → last_key_or key es ≡ Some k → ((es ≡ []) × (key ≡ Some k)) ⊎ ((before : List Entry) × (es ≡ before ++ Key k ∷ []))
@@ -163,11 +163,11 @@ key_stays es more k n has = elim has.said [
 abbrev pub GivesNoKey : Entry → Type 0
 GivesNoKey (Queued content) = ⊥
 GivesNoKey (Tried n next) = Unit {0}
-GivesNoKey (Recorded n) = Unit {0}
-GivesNoKey (Raised next) = Unit {0}
+GivesNoKey (Recorded n hd) = Unit {0}
+GivesNoKey (Raised next hd) = Unit {0}
 GivesNoKey (Cancelled n) = Unit {0}
 GivesNoKey (Key key) = Unit {0}
-GivesNoKey (Renewed last) = Unit {0}
+GivesNoKey (Renewed last hd) = Unit {0}
 GivesNoKey (Earlier n key) = ⊥
 
 -- A key of the longer list is one of before, or that of the receipt that the new entry takes, or the one that the new entry says.

@@ -74,11 +74,11 @@ others_record : (es : List Entry) → AllByRecursion IsOthers es → recorded es
 others_record [] all = refl
 others_record (Queued content ∷ es) (this, more) = others_record es more
 others_record (Tried n next ∷ es) (this, more) = absurd this
-others_record (Recorded n ∷ es) (this, more) = absurd this
-others_record (Raised next ∷ es) (this, more) = others_record es more
+others_record (Recorded n hd ∷ es) (this, more) = absurd this
+others_record (Raised next hd ∷ es) (this, more) = others_record es more
 others_record (Cancelled n ∷ es) (this, more) = others_record es more
 others_record (entry.Key key ∷ es) (this, more) = others_record es more
-others_record (entry.Renewed last ∷ es) (this, more) = absurd this
+others_record (entry.Renewed last hd ∷ es) (this, more) = absurd this
 others_record (entry.Earlier n key ∷ es) (this, more) = absurd this
 
 pub others_recorded : (es others : List Entry) → AllByRecursion IsOthers others → recorded (es ++ others) ≡ recorded es
@@ -88,11 +88,11 @@ others_try : (es : List Entry) (n : ℕ) → AllByRecursion IsOthers es → time
 others_try [] n all = refl
 others_try (Queued content ∷ es) n (this, more) = others_try es n more
 others_try (Tried m next ∷ es) n (this, more) = absurd this
-others_try (Recorded m ∷ es) n (this, more) = absurd this
-others_try (Raised next ∷ es) n (this, more) = others_try es n more
+others_try (Recorded m hd ∷ es) n (this, more) = absurd this
+others_try (Raised next hd ∷ es) n (this, more) = others_try es n more
 others_try (Cancelled m ∷ es) n (this, more) = others_try es n more
 others_try (entry.Key key ∷ es) n (this, more) = others_try es n more
-others_try (entry.Renewed last ∷ es) n (this, more) = absurd this
+others_try (entry.Renewed last hd ∷ es) n (this, more) = absurd this
 others_try (entry.Earlier m key ∷ es) n (this, more) = absurd this
 
 pub others_tried : (es others : List Entry) (n : ℕ) → AllByRecursion IsOthers others → times_tried (es ++ others) n ≡ times_tried es n
@@ -106,11 +106,11 @@ others_older (e ∷ es) others all = refl
 others_older [] [] all = refl
 others_older [] (Queued content ∷ others) all = refl
 others_older [] (Tried n next ∷ others) all = refl
-others_older [] (Recorded n ∷ others) all = refl
-others_older [] (Raised next ∷ others) all = refl
+others_older [] (Recorded n hd ∷ others) all = refl
+others_older [] (Raised next hd ∷ others) all = refl
 others_older [] (Cancelled n ∷ others) all = refl
 others_older [] (entry.Key key ∷ others) all = refl
-others_older [] (entry.Renewed last ∷ others) (this, more) = absurd this
+others_older [] (entry.Renewed last hd ∷ others) (this, more) = absurd this
 others_older [] (entry.Earlier n key ∷ others) all = refl
 
 stands_by : (es : List Entry) (n : ℕ) (cancel : Option ℕ) → place_of es n ≡ None → cancel_place_of es n ≡ cancel
@@ -132,17 +132,17 @@ stands_after b es others n book all waits = (
 -- ## What is to be kept
 
 waits_to_follow : (es : List Entry) (e : Entry) (next : Then) (n : ℕ) → MayFollow es e → Suits next e → next ≡ then.Recorded n → Waits es n × (0 < times_tried es n)
-waits_to_follow es (Recorded m) (then.Recorded k) n follows suits is =
+waits_to_follow es (Recorded m hd) (then.Recorded k) n follows suits is =
     let same : k ≡ n = cc is in
-    subst (λ v. Waits es v × (0 < times_tried es v)) (suits ∙ same) follows
+    subst (λ v. Waits es v × (0 < times_tried es v)) (suits ∙ same) (follows.0, follows.1)
 waits_to_follow es (Queued content) (then.Recorded k) n follows suits is = absurd suits
 waits_to_follow es (Tried m next) (then.Recorded k) n follows suits is = absurd suits
-waits_to_follow es (Raised next) (then.Recorded k) n follows suits is = absurd suits
+waits_to_follow es (Raised next hd) (then.Recorded k) n follows suits is = absurd suits
 waits_to_follow es (Cancelled m) (then.Recorded k) n follows suits is = absurd suits
 waits_to_follow es (entry.Key key) (then.Recorded k) n follows suits is = absurd suits
 waits_to_follow es e (then.GoOn m tried due) n follows suits is = absurd (let bad : then.GoOn m tried due ≡ then.Recorded n = is in cc)
 waits_to_follow es e (then.SendNext m due) n follows suits is = absurd (let bad : then.SendNext m due ≡ then.Recorded n = is in cc)
-waits_to_follow es (entry.Renewed last) (then.Recorded k) n follows suits is = absurd suits
+waits_to_follow es (entry.Renewed last hd) (then.Recorded k) n follows suits is = absurd suits
 waits_to_follow es (entry.Earlier m key) (then.Recorded k) n follows suits is = absurd suits
 waits_to_follow es e (then.Send due) n follows suits is = absurd (let bad : then.Send due ≡ then.Recorded n = is in cc)
 waits_to_follow es e then.Queued n follows suits is = absurd (let bad : then.Queued ≡ then.Recorded n = is in cc)
@@ -151,23 +151,23 @@ waits_to_follow es e then.Raised n follows suits is = absurd (let bad : then.Rai
 waits_to_follow es e (then.Cancelled m tried) n follows suits is = absurd (let bad : then.Cancelled m tried ≡ then.Recorded n = is in cc)
 
 going_to_follow : (es : List Entry) (e : Entry) (n : ℕ) (tried : Entry) (due : Due) → MayFollow es e → Suits (then.GoOn n tried due) e → Waits es n × (0 < times_tried es n)
-going_to_follow es (Recorded m) n tried due follows (same, this) = subst (λ v. Waits es v × (0 < times_tried es v)) same follows
+going_to_follow es (Recorded m hd) n tried due follows (same, this) = subst (λ v. Waits es v × (0 < times_tried es v)) same (follows.0, follows.1)
 going_to_follow es (Queued content) n tried due follows suits = absurd suits
 going_to_follow es (Tried m next) n tried due follows suits = absurd suits
-going_to_follow es (Raised next) n tried due follows suits = absurd suits
+going_to_follow es (Raised next hd) n tried due follows suits = absurd suits
 going_to_follow es (Cancelled m) n tried due follows suits = absurd suits
 going_to_follow es (entry.Key key) n tried due follows suits = absurd suits
-going_to_follow es (entry.Renewed last) n tried due follows suits = absurd suits
+going_to_follow es (entry.Renewed last hd) n tried due follows suits = absurd suits
 going_to_follow es (entry.Earlier m key) n tried due follows suits = absurd suits
 
 waits_to_send : (es : List Entry) (e : Entry) (due : Due) → MayFollow es e → Suits (then.Send due) e → Waits es due.number
 waits_to_send es (Tried m next) due follows suits = subst (Waits es) suits follows.0
 waits_to_send es (Queued content) due follows suits = absurd suits
-waits_to_send es (Recorded m) due follows suits = absurd suits
-waits_to_send es (Raised next) due follows suits = absurd suits
+waits_to_send es (Recorded m hd) due follows suits = absurd suits
+waits_to_send es (Raised next hd) due follows suits = absurd suits
 waits_to_send es (Cancelled m) due follows suits = absurd suits
 waits_to_send es (entry.Key key) due follows suits = absurd suits
-waits_to_send es (entry.Renewed last) due follows suits = absurd suits
+waits_to_send es (entry.Renewed last hd) due follows suits = absurd suits
 waits_to_send es (entry.Earlier m key) due follows suits = absurd suits
 
 pub on_ok : {X E : Type 0} (r : Result X E) (A : Type 0) → A → OnOk r A
@@ -192,7 +192,7 @@ pub fits_revised : (b : Book) (es others : List Entry) (e : Entry) (next : Then)
     → length (es ++ others) + 1 < most_entries → HasTryRoom b → Revises next b before h s → Fits b (es ++ others) s
 fits_revised b es others e (then.Send due) before h s book all follows suits few room (inl (waits, marks, same, is)) =
     subst (Fits b (es ++ others)) (sym is) (
-      (waits (es ++ others) book, omega (arith, book.next, le-max_right due.openings 1)),
+      (waits (es ++ others) book, omega (arith, book.next, le-max_right due.openings 1), omega (arith, book.next, book.heard, marks)),
       refl,
       few,
       (λ content bad. absurd (let no : entry.Tried due.number (b.next + marks_taken due.openings) ≡ entry.Queued content = bad in cc)),
@@ -205,7 +205,7 @@ fits_revised b es others e (then.Send due) before h s book all follows suits few
 fits_revised b es others e (then.Recorded n) before h s book all follows suits few room (inl (waits, same, is)) =
     let tried : 0 < times_tried (es ++ others) n =
     omega (arith, others_tried es others n all, (waits_to_follow es e (then.Recorded n) n follows suits refl).1) in
-    subst (Fits b (es ++ others)) (sym is) (fits_printed b (es ++ others) n (waits (es ++ others) book) tried (omega (arith, few)))
+    subst (Fits b (es ++ others)) (sym is) (fits_printed b (es ++ others) n before book (waits (es ++ others) book) tried (omega (arith, few)))
 fits_revised b es others e (then.Recorded n) before h s book all follows suits few room (inr (tried, cancelled, drops, is)) = subst (Fits b (es ++ others)) (sym is) tt
 fits_revised b es others e (then.GoOn n tried due) before h s book all follows suits few room (inl (waits, same, goes)) =
     let tried_so : 0 < times_tried (es ++ others) n = omega (arith, others_tried es others n all, (going_to_follow es e n tried due follows suits).1) in

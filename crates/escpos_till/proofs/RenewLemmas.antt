@@ -26,8 +26,8 @@ use Rattle.escpos_till.proofs.StateLemmas.{waiting_is_not}
 
 -- ## The beginning
 
-pub says_renewed : (last : ℕ) → SaysNothing last (Renewed last ∷ [])
-says_renewed last = record { older = refl; contents = refl; recorded = refl; cancelled = refl; tries = refl; times = λ n. refl }
+pub says_renewed : (last hd : ℕ) → SaysNothing last (Renewed last hd ∷ [])
+says_renewed last hd = record { older = refl; contents = refl; recorded = refl; cancelled = refl; tries = refl; times = λ n. refl }
 
 nothing_more : {X Y : Type 0} (f : X → Option Y) (xs : List X) (x : X) → filter_map f xs ≡ [] → filter_map f (x ∷ []) ≡ [] → filter_map f (xs ++ x ∷ []) ≡ []
 nothing_more f xs x none one = filter_map-append f xs (x ∷ []) ∙ ap (λ ys. ys ++ filter_map f (x ∷ [])) none ∙ one
@@ -78,8 +78,8 @@ carried_quiet last first old new e older content record_none cancel try times c 
 pub carried_key : (last first : ℕ) (old new : List Entry) (key : List ℕ) → Carried last first old new → Carried last first old (new ++ Key key ∷ [])
 carried_key last first old new key c = carried_quiet last first old new (Key key) refl refl refl refl refl (λ n. refl) c
 
-pub carried_raised : (last first : ℕ) (old new : List Entry) (next : ℕ) → Carried last first old new → Carried last first old (new ++ Raised next ∷ [])
-carried_raised last first old new next c = carried_quiet last first old new (Raised next) refl refl refl refl refl (λ n. refl) c
+pub carried_raised : (last first : ℕ) (old new : List Entry) (next hd : ℕ) → Carried last first old new → Carried last first old (new ++ Raised next hd ∷ [])
+carried_raised last first old new next hd c = carried_quiet last first old new (Raised next hd) refl refl refl refl refl (λ n. refl) c
 
 above_test : (b : Bool) (x : ℕ) → b ≡ true → cond b (x ∷ []) [] ≡ x ∷ []
 above_test b x is = ap (λ t. cond t (x ∷ []) []) is
@@ -109,61 +109,61 @@ skipped_part f p old new e is this = sym (append-nil (filter_map f new)) ∙ par
 all_recorded : (last skip : ℕ) (e : Entry) → is_carried last skip e ≡ true → above last (recorded (e ∷ [])) ≡ recorded (e ∷ [])
 all_recorded last skip (Queued content) is = refl
 all_recorded last skip (Tried n next) is = refl
-all_recorded last skip (Recorded n) is = above_test (nat_lt last n) n is
-all_recorded last skip (Raised next) is = refl
+all_recorded last skip (Recorded n hd) is = above_test (nat_lt last n) n is
+all_recorded last skip (Raised next hd) is = refl
 all_recorded last skip (Cancelled n) is = refl
 all_recorded last skip (Key key) is = refl
-all_recorded last skip (Renewed older) is = refl
+all_recorded last skip (Renewed older hd) is = refl
 all_recorded last skip (Earlier n key) is = refl
 
 none_recorded : (last skip : ℕ) (e : Entry) → is_carried last skip e ≡ false → above last (recorded (e ∷ [])) ≡ []
 none_recorded last skip (Queued content) is = refl
 none_recorded last skip (Tried n next) is = refl
-none_recorded last skip (Recorded n) is = none_test (nat_lt last n) n is
-none_recorded last skip (Raised next) is = refl
+none_recorded last skip (Recorded n hd) is = none_test (nat_lt last n) n is
+none_recorded last skip (Raised next hd) is = refl
 none_recorded last skip (Cancelled n) is = refl
 none_recorded last skip (Key key) is = refl
-none_recorded last skip (Renewed older) is = refl
+none_recorded last skip (Renewed older hd) is = refl
 none_recorded last skip (Earlier n key) is = refl
 
 all_cancelled : (last skip : ℕ) (e : Entry) → is_carried last skip e ≡ true → above last (cancelled (e ∷ [])) ≡ cancelled (e ∷ [])
 all_cancelled last skip (Queued content) is = refl
 all_cancelled last skip (Tried n next) is = refl
-all_cancelled last skip (Recorded n) is = refl
-all_cancelled last skip (Raised next) is = refl
+all_cancelled last skip (Recorded n hd) is = refl
+all_cancelled last skip (Raised next hd) is = refl
 all_cancelled last skip (Cancelled n) is = above_test (nat_lt last n) n is
 all_cancelled last skip (Key key) is = refl
-all_cancelled last skip (Renewed older) is = refl
+all_cancelled last skip (Renewed older hd) is = refl
 all_cancelled last skip (Earlier n key) is = refl
 
 none_cancelled : (last skip : ℕ) (e : Entry) → is_carried last skip e ≡ false → above last (cancelled (e ∷ [])) ≡ []
 none_cancelled last skip (Queued content) is = refl
 none_cancelled last skip (Tried n next) is = refl
-none_cancelled last skip (Recorded n) is = refl
-none_cancelled last skip (Raised next) is = refl
+none_cancelled last skip (Recorded n hd) is = refl
+none_cancelled last skip (Raised next hd) is = refl
 none_cancelled last skip (Cancelled n) is = none_test (nat_lt last n) n is
 none_cancelled last skip (Key key) is = refl
-none_cancelled last skip (Renewed older) is = refl
+none_cancelled last skip (Renewed older hd) is = refl
 none_cancelled last skip (Earlier n key) is = refl
 
 all_tries : (last skip : ℕ) (e : Entry) → is_carried last skip e ≡ true → tries_above last (tries (e ∷ [])) ≡ tries (e ∷ [])
 all_tries last skip (Queued content) is = refl
 all_tries last skip (Tried n next) is = try_test (nat_lt last n) (record { number = n; closing = next - 1 }) is
-all_tries last skip (Recorded n) is = refl
-all_tries last skip (Raised next) is = refl
+all_tries last skip (Recorded n hd) is = refl
+all_tries last skip (Raised next hd) is = refl
 all_tries last skip (Cancelled n) is = refl
 all_tries last skip (Key key) is = refl
-all_tries last skip (Renewed older) is = refl
+all_tries last skip (Renewed older hd) is = refl
 all_tries last skip (Earlier n key) is = refl
 
 none_tried : (last skip : ℕ) (e : Entry) → is_carried last skip e ≡ false → tries_above last (tries (e ∷ [])) ≡ []
 none_tried last skip (Queued content) is = refl
 none_tried last skip (Tried n next) is = none_test (nat_lt last n) (let t : Try = record { number = n; closing = next - 1 } in t) is
-none_tried last skip (Recorded n) is = refl
-none_tried last skip (Raised next) is = refl
+none_tried last skip (Recorded n hd) is = refl
+none_tried last skip (Raised next hd) is = refl
 none_tried last skip (Cancelled n) is = refl
 none_tried last skip (Key key) is = refl
-none_tried last skip (Renewed older) is = refl
+none_tried last skip (Renewed older hd) is = refl
 none_tried last skip (Earlier n key) is = refl
 
 not_above : (last n k : ℕ) → nat_lt last n ≡ false → last < k → n ≢ k
@@ -172,11 +172,11 @@ not_above last n k is later same = absurd (grind (arith, is, later, same))
 no_try_later : (last skip k : ℕ) (e : Entry) → is_carried last skip e ≡ false → last < k → is_try_of k e ≡ false
 no_try_later last skip k (Queued content) is later = refl
 no_try_later last skip k (Tried n next) is later = is_other n k (not_above last n k is later)
-no_try_later last skip k (Recorded n) is later = refl
-no_try_later last skip k (Raised next) is later = refl
+no_try_later last skip k (Recorded n hd) is later = refl
+no_try_later last skip k (Raised next hd) is later = refl
 no_try_later last skip k (Cancelled n) is later = refl
 no_try_later last skip k (Key key) is later = refl
-no_try_later last skip k (Renewed older) is later = refl
+no_try_later last skip k (Renewed older hd) is later = refl
 no_try_later last skip k (Earlier n key) is later = refl
 
 same_try : (old new : List Entry) (e : Entry) (k : ℕ) (b : Bool) → is_try_of k e ≡ b → times_tried new k ≡ times_tried old k → times_tried (new ++ e ∷ []) k ≡ times_tried (old ++ e ∷ []) k
@@ -204,13 +204,13 @@ taken_contents last first skip old new (Queued content) later is counts same =
     filter_map-append content_of new (e ∷ []) ∙ ap (λ cs. cs ++ content ∷ []) same ∙ sym (drop_within (last - first) (contents old) content within) ∙ ap (drop (last - first)) (sym parts)
 taken_contents last first skip old new (Tried n next) later is counts same =
     same_more content_of new (Tried n next) refl ∙ same ∙ ap (drop (last - first)) (sym (same_more content_of old (Tried n next) refl))
-taken_contents last first skip old new (Recorded n) later is counts same =
-    same_more content_of new (Recorded n) refl ∙ same ∙ ap (drop (last - first)) (sym (same_more content_of old (Recorded n) refl))
+taken_contents last first skip old new (Recorded n hd) later is counts same =
+    same_more content_of new (Recorded n hd) refl ∙ same ∙ ap (drop (last - first)) (sym (same_more content_of old (Recorded n hd) refl))
 taken_contents last first skip old new (Cancelled n) later is counts same =
     same_more content_of new (Cancelled n) refl ∙ same ∙ ap (drop (last - first)) (sym (same_more content_of old (Cancelled n) refl))
-taken_contents last first skip old new (Raised next) later is counts same = absurd (let bad : false ≡ true = is in cc)
+taken_contents last first skip old new (Raised next hd) later is counts same = absurd (let bad : false ≡ true = is in cc)
 taken_contents last first skip old new (Key key) later is counts same = absurd (let bad : false ≡ true = is in cc)
-taken_contents last first skip old new (Renewed older) later is counts same = absurd (let bad : false ≡ true = is in cc)
+taken_contents last first skip old new (Renewed older hd) later is counts same = absurd (let bad : false ≡ true = is in cc)
 taken_contents last first skip old new (Earlier n key) later is counts same = absurd (let bad : false ≡ true = is in cc)
 
 skipped_contents : (last first skip : ℕ) (old new : List Entry) (e : Entry) → first ≤ last → is_carried last skip e ≡ false → skip ≡ last - first - length (contents old)
@@ -222,21 +222,21 @@ skipped_contents last first skip old new (Queued content) later is counts same =
     let past : length (contents old) + 1 ≤ last - first = grind (arith, nat_tests, is, counts) in
     same ∙ drop_past (last - first) (contents old) (omega (arith, past)) ∙ sym (drop_past (last - first) (contents (old ++ e ∷ [])) (omega (arith, past, all)))
 skipped_contents last first skip old new (Tried n next) later is counts same = same ∙ ap (drop (last - first)) (sym (same_more content_of old (Tried n next) refl))
-skipped_contents last first skip old new (Recorded n) later is counts same = same ∙ ap (drop (last - first)) (sym (same_more content_of old (Recorded n) refl))
-skipped_contents last first skip old new (Raised next) later is counts same = same ∙ ap (drop (last - first)) (sym (same_more content_of old (Raised next) refl))
+skipped_contents last first skip old new (Recorded n hd) later is counts same = same ∙ ap (drop (last - first)) (sym (same_more content_of old (Recorded n hd) refl))
+skipped_contents last first skip old new (Raised next hd) later is counts same = same ∙ ap (drop (last - first)) (sym (same_more content_of old (Raised next hd) refl))
 skipped_contents last first skip old new (Cancelled n) later is counts same = same ∙ ap (drop (last - first)) (sym (same_more content_of old (Cancelled n) refl))
 skipped_contents last first skip old new (Key key) later is counts same = same ∙ ap (drop (last - first)) (sym (same_more content_of old (Key key) refl))
-skipped_contents last first skip old new (Renewed older) later is counts same = same ∙ ap (drop (last - first)) (sym (same_more content_of old (Renewed older) refl))
+skipped_contents last first skip old new (Renewed older hd) later is counts same = same ∙ ap (drop (last - first)) (sym (same_more content_of old (Renewed older hd) refl))
 skipped_contents last first skip old new (Earlier n key) later is counts same = same ∙ ap (drop (last - first)) (sym (same_more content_of old (Earlier n key) refl))
 
 carries_no_start : (last skip : ℕ) (e : Entry) → is_carried last skip e ≡ true → earlier_of e ≡ 0
 carries_no_start last skip (Queued content) is = refl
 carries_no_start last skip (Tried n next) is = refl
-carries_no_start last skip (Recorded n) is = refl
-carries_no_start last skip (Raised next) is = refl
+carries_no_start last skip (Recorded n hd) is = refl
+carries_no_start last skip (Raised next hd) is = refl
 carries_no_start last skip (Cancelled n) is = refl
 carries_no_start last skip (Key key) is = refl
-carries_no_start last skip (Renewed older) is = absurd (let bad : false ≡ true = is in cc)
+carries_no_start last skip (Renewed older hd) is = absurd (let bad : false ≡ true = is in cc)
 carries_no_start last skip (Earlier n key) is = refl
 
 pub carried_take : (last first skip : ℕ) (old new : List Entry) (e : Entry) → first ≤ last → is_carried last skip e ≡ true → skip ≡ last - first - length (contents old)
@@ -438,8 +438,8 @@ first_or_none b es book = go (slice_get b.states.items b.first_waiting) refl
     go (Some (state.Cancelled tried)) is = absurd (book.first_waiting.waits (state.Cancelled tried) is tt)
 
 pub renews_so : (b : Book) (es new : List Entry) (last : ℕ) (nb : Book) → IsBookOf b es → last ≡ b.earlier + b.first_waiting → Carried last b.earlier es new → IsLedger new
-    → IsBookOf nb new → nb.next ≡ b.next → KeysAgree b last nb.keys.items → Renews es new
-renews_so b es new last nb book is c ledger found next agree =
+    → IsBookOf nb new → nb.next ≡ b.next → nb.heard ≡ b.heard → KeysAgree b last nb.keys.items → Renews es new
+renews_so b es new last nb book is c ledger found next heard agree =
     let same = last_same_so b es new last book is c in
     let later : (n : ℕ) → Waits es n → last < n = λ n waits. subst (λ l. l < n) (sym is) (waits_later b es n book waits) in
     record {
@@ -452,6 +452,7 @@ renews_so b es new last nb book is c ledger found next agree =
         λ has. subst (λ ts. HasTry ts n closing) (sym c.tries) (tries_on last n closing (tries es) (later n waits) has),
       );
       next = sym found.next ∙ next ∙ book.next;
+      heard = sym found.heard ∙ heard ∙ book.heard;
       last = same;
       over = λ n within waits. absurd (omega (arith, within, c.older, later n waits));
       no_later = elim (first_or_none b es book) [

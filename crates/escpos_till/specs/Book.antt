@@ -6,7 +6,7 @@ use Rattle.escpos_till.specs.declared.entry.Entry.{Entry}
 use Rattle.escpos_till.specs.declared.entry.Entry.TheVariants as entry
 use Rattle.escpos_till.specs.declared.state.ReceiptState.TheVariants as state
 use Rattle.escpos_till.specs.declared.keyed.Keyed.{Keyed}
-use Rattle.escpos_till.specs.Entries.{HasKey, IsLedger, MayFollow, contents, earlier, last_key, next_free, recorded, states}
+use Rattle.escpos_till.specs.Entries.{HasKey, IsLedger, MayFollow, contents, earlier, heard, last_key, next_free, recorded, states}
 use Rattle.escpos_till.specs.Keyed.{ListsKey}
 use Rattle.escpos_till.specs.States.{IsFirstWaiting}
 use Rattle.escpos_till.specs.Tries.{tries}
@@ -33,6 +33,7 @@ pub record IsBookOf (b : Book) (entries : List Entry) : Type 0 where
   pub keys : HasKeys b.keys.items entries
   pub last_key : b.last_key ≡ last_key entries
   pub next : b.next ≡ next_free entries
+  pub heard : b.heard ≡ heard entries
   pub count : b.count ≡ length entries
 
 -- One more entry, which may follow, is taken into account.
@@ -57,6 +58,6 @@ HasTryRoom b = length b.tries.items < b.tries.cap
 
 -- The entry needs no room.
 abbrev pub NeedsNoRoom : Entry → Type 0
-NeedsNoRoom (entry.Raised next) = Unit {0}
+NeedsNoRoom (entry.Raised next h) = Unit {0}
 NeedsNoRoom (entry.Key key) = Unit {0}
 NeedsNoRoom e = ⊥

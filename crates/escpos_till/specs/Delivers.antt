@@ -1,5 +1,5 @@
 -- What is delivered: the first receipt that waits, as it is sent.
-use Rattle.std.specs.Prelude.{ℕ, ◌≡◌, ◌+◌, ◌^◌, max, Option, Some, List, [], slice_get}
+use Rattle.std.specs.Prelude.{ℕ, ◌≡◌, ◌+◌, ◌^◌, max, min, Option, Some, List, [], slice_get}
 use Rattle.escpos_command.specs.declared.command.Command.{Command}
 use Rattle.escpos_host.specs.Machine.{HostView, Down}
 use Rattle.escpos_receipt.specs.declared.json.JsonError.{JsonError}
@@ -39,7 +39,7 @@ WhyNone json.Memory content = Unit {0}
 abbrev pub marks_taken : ℕ → ℕ
 marks_taken openings = max openings 1 + 1
 
--- A host that has sent nothing yet, and has no record. Its first mark will have this number. It doesn't know which marks of older
--- hosts are answered: a till's marks all have numbers below the count of ids.
-abbrev pub fresh : ℕ → HostView
-fresh first = record { phase = Down; out = []; half = []; next = first; heard = 0; records = []; left = [] }
+-- A host that has sent nothing yet, and has no record. Its first mark will have this number. Of the marks of older hosts those below another number
+-- can't be answered any more.
+abbrev pub fresh : ℕ → ℕ → HostView
+fresh first heard = record { phase = Down; out = []; half = []; next = first; heard = min heard first; records = []; left = [] }

@@ -1,11 +1,13 @@
 -- What a list of entries says, and which lists are ledgers. Each definition looks back at the whole list.
-use Rattle.std.specs.Prelude.{ℕ, ◌≡◌, ◌⊎◌, ◌+◌, ◌-◌, ◌<◌, ◌≤◌, Bool, false, ◌==◌, ◌&&◌, is_none, Option, Some, None, List, [], ◌∷◌, ◌++◌, length, map, filter, count_by}
+use Rattle.std.specs.Prelude.{ℕ, zero, suc, ◌≡◌, ◌⊎◌, ◌+◌, ◌-◌, ◌<◌, ◌≤◌, max, Bool, false, ◌==◌, ◌&&◌, is_none, Option, Some, None, List, [], ◌∷◌, ◌++◌, length, map, filter, count_by}
 use Rattle.std.specs.List.{filter_map, position_from}
+use Rattle.escpos_host.specs.Machine.{limit_from}
 use Rattle.escpos_till.specs.declared.entry.Content.{Content}
 use Rattle.escpos_till.specs.declared.entry.Entry.{Entry}
 use Rattle.escpos_till.specs.declared.entry.Entry.TheVariants as entry
 use Rattle.escpos_till.specs.declared.state.ReceiptState.{ReceiptState}
 use Rattle.escpos_till.specs.declared.state.ReceiptState.TheVariants as state
+use Rattle.escpos_till.specs.Tries.{end_of_tries, last_or, tries}
 
 -- ## Mark numbers
 
@@ -13,32 +15,49 @@ use Rattle.escpos_till.specs.declared.state.ReceiptState.TheVariants as state
 abbrev pub next_of : Entry → Option ℕ
 next_of (entry.Queued content) = None
 next_of (entry.Tried number next) = Some next
-next_of (entry.Recorded number) = None
-next_of (entry.Raised next) = Some next
+next_of (entry.Recorded number h) = None
+next_of (entry.Raised next h) = Some next
 next_of (entry.Cancelled number) = None
 next_of (entry.Key key) = None
-next_of (entry.Renewed last) = None
+next_of (entry.Renewed last h) = None
 next_of (entry.Earlier number key) = None
-
--- The last of some numbers; this one if there are none.
-abbrev pub last_or : ℕ → List ℕ → ℕ
-last_or n [] = n
-last_or n (m ∷ ms) = last_or m ms
 
 -- The first mark number that is free: the last one that an entry says, 0 before any.
 abbrev pub next_free : List Entry → ℕ
 next_free entries = last_or 0 (filter_map next_of entries)
+
+-- An entry that comes after these says that no mark with a number below this one can be answered any more: a receipt is recorded once the answer
+-- to a mark has come. A record without such a number, as in files of before, says it of the closing mark of the receipt's last try.
+abbrev pub heard_said : List Entry → Entry → ℕ
+heard_said before (entry.Queued content) = 0
+heard_said before (entry.Tried number next) = 0
+heard_said before (entry.Recorded number zero) = end_of_tries (tries before) number
+heard_said before (entry.Recorded number (suc h)) = suc h
+heard_said before (entry.Raised next h) = h
+heard_said before (entry.Cancelled number) = 0
+heard_said before (entry.Key key) = 0
+heard_said before (entry.Renewed last h) = h
+heard_said before (entry.Earlier number key) = 0
+
+-- The highest of this number and those that these entries say, which come after others.
+abbrev pub heard_after : List Entry → ℕ → List Entry → ℕ
+heard_after before most [] = most
+heard_after before most (e ∷ es) = heard_after (before ++ e ∷ []) (max most (heard_said before e)) es
+
+-- No mark with a number below this one can be answered any more: the highest number of which the entries say so.
+abbrev pub heard : List Entry → ℕ
+heard entries = heard_after [] 0 entries
 
 -- ## Receipts
 
 abbrev pub content_of : Entry → Option Content
 content_of (entry.Queued content) = Some content
 content_of (entry.Tried number next) = None
-content_of (entry.Recorded number) = None
-content_of (entry.Raised next) = None
+content_of (entry.Recorded number h) = None
+content_of (entry.Raised next h) = None
 content_of (entry.Cancelled number) = None
 content_of (entry.Key key) = None
-content_of (entry.Renewed last) = None
+content_of (entry.Renewed last h) = None
 content_of (entry.Earlier number key) = None
 
 -- The contents of the receipts that were taken, in the order of taking.
@@ -58,11 +77,11 @@ numbered_from n (content ∷ more) = record { number = n; content = content } �
 abbrev pub earlier_of : Entry → ℕ
 earlier_of (entry.Queued content) = 0
 earlier_of (entry.Tried number next) = 0
-earlier_of (entry.Recorded number) = 0
-earlier_of (entry.Raised next) = 0
+earlier_of (entry.Recorded number h) = 0
+earlier_of (entry.Raised next h) = 0
 earlier_of (entry.Cancelled number) = 0
 earlier_of (entry.Key key) = 0
-earlier_of (entry.Renewed last) = last
+earlier_of (entry.Renewed last h) = last
 earlier_of (entry.Earlier number key) = 0
 
 -- A ledger that goes on from an older one says so in its first entry. Receipts with numbers up to this one were taken there, and are over.
@@ -85,11 +104,11 @@ place_here entries number = number - (1 + earlier entries)
 abbrev pub record_of : Entry → Option ℕ
 record_of (entry.Queued content) = None
 record_of (entry.Tried number next) = None
-record_of (entry.Recorded number) = Some number
-record_of (entry.Raised next) = None
+record_of (entry.Recorded number h) = Some number
+record_of (entry.Raised next h) = None
 record_of (entry.Cancelled number) = None
 record_of (entry.Key key) = None
-record_of (entry.Renewed last) = None
+record_of (entry.Renewed last h) = None
 record_of (entry.Earlier number key) = None
 
 -- The numbers of the receipts that are recorded, in the order of recording.
@@ -107,11 +126,11 @@ place_of entries number = place_in (recorded entries) number
 abbrev pub cancel_of : Entry → Option ℕ
 cancel_of (entry.Queued content) = None
 cancel_of (entry.Tried number next) = None
-cancel_of (entry.Recorded number) = None
-cancel_of (entry.Raised next) = None
+cancel_of (entry.Recorded number h) = None
+cancel_of (entry.Raised next h) = None
 cancel_of (entry.Cancelled number) = Some number
 cancel_of (entry.Key key) = None
-cancel_of (entry.Renewed last) = None
+cancel_of (entry.Renewed last h) = None
 cancel_of (entry.Earlier number key) = None
 
 -- The numbers of the receipts that are cancelled, in the order of cancelling.
@@ -133,11 +152,11 @@ waiting entries = filter (λ receipt. is_open entries receipt.number) (taken ent
 abbrev pub is_try_of : ℕ → Entry → Bool
 is_try_of number (entry.Queued content) = false
 is_try_of number (entry.Tried n next) = n == number
-is_try_of number (entry.Recorded n) = false
-is_try_of number (entry.Raised next) = false
+is_try_of number (entry.Recorded n h) = false
+is_try_of number (entry.Raised next h) = false
 is_try_of number (entry.Cancelled n) = false
 is_try_of number (entry.Key key) = false
-is_try_of number (entry.Renewed last) = false
+is_try_of number (entry.Renewed last h) = false
 is_try_of number (entry.Earlier n key) = false
 
 -- How often a receipt was sent, or was about to be.
@@ -182,11 +201,11 @@ pub record HasKey (entries : List Entry) (key : List ℕ) (number : ℕ) : Type 
 abbrev pub key_of : Entry → Option (List ℕ)
 key_of (entry.Queued content) = None
 key_of (entry.Tried number next) = None
-key_of (entry.Recorded number) = None
-key_of (entry.Raised next) = None
+key_of (entry.Recorded number h) = None
+key_of (entry.Raised next h) = None
 key_of (entry.Cancelled number) = None
 key_of (entry.Key key) = Some key
-key_of (entry.Renewed last) = None
+key_of (entry.Renewed last h) = None
 key_of (entry.Earlier number key) = None
 
 -- The key that the last of some entries says; this one if there are none.
@@ -208,16 +227,17 @@ pub record Waits (entries : List Entry) (number : ℕ) : Type 0 where
   pub not_cancelled : cancel_place_of entries number ≡ None
 
 -- In a ledger the entry may come after these. Only a receipt that waits is tried or cancelled; only one that was tried, and
--- waits, is recorded. The next mark number never falls, and each try raises it. A key is said only while no receipt has it, and of a receipt
+-- waits, is recorded. The next mark number never falls, and each try raises it; but no try has a mark whose id one has that may still be answered.
+-- Where all marks are answered, it may be raised with all that is said to be heard, and so to any number. A key is said only while no receipt has it, and of a receipt
 -- of an older ledger only one key is said. That a ledger goes on from an older one is its first entry.
 abbrev pub MayFollow : List Entry → Entry → Type 0
 MayFollow before (entry.Queued content) = Unit {0}
-MayFollow before (entry.Tried number next) = Waits before number × (next_free before < next)
-MayFollow before (entry.Recorded number) = Waits before number × (0 < times_tried before number)
-MayFollow before (entry.Raised next) = next_free before ≤ next
+MayFollow before (entry.Tried number next) = Waits before number × (next_free before < next) × (next ≤ limit_from (heard before))
+MayFollow before (entry.Recorded number h) = Waits before number × (0 < times_tried before number) × (h ≤ next_free before)
+MayFollow before (entry.Raised next h) = (next_free before ≤ next) × ((h ≡ 0) ⊎ ((h ≡ next) × (heard before ≡ next_free before)))
 MayFollow before (entry.Cancelled number) = Waits before number
 MayFollow before (entry.Key key) = (number : ℕ) → HasKey before key number → ⊥
-MayFollow before (entry.Renewed last) = before ≡ []
+MayFollow before (entry.Renewed last h) = before ≡ []
 MayFollow before (entry.Earlier number key) =
     (0 < number) × (number ≤ earlier before) × ((n : ℕ) → HasKey before key n → ⊥) × ((k : List ℕ) → HasKey before k number → ⊥)
 

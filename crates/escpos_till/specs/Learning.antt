@@ -5,10 +5,9 @@
 -- the same time.
 use Rattle.std.specs.Prelude.{ℕ, ◌≡◌, ◌⊎◌, ◌+◌, ◌<◌, ◌≤◌, List, [], ◌∷◌, ◌++◌, length}
 use Rattle.std.specs.List.{AllByRecursion}
-use Rattle.escpos_command.specs.Digits.{mark_count}
 use Rattle.escpos_host.specs.declared.host.HostError.TheVariants as error
 use Rattle.escpos_host.specs.declared.send.SendFault.TheVariants as fault
-use Rattle.escpos_host.specs.Machine.{HostView}
+use Rattle.escpos_host.specs.Machine.{HostView, limit_from}
 use Rattle.escpos_till.specs.declared.book.Book.{Book}
 use Rattle.escpos_till.specs.declared.entry.Entry.{Entry}
 use Rattle.escpos_till.specs.declared.entry.Entry.TheVariants as entry
@@ -32,11 +31,11 @@ use Rattle.escpos_till.specs.Machine.{Drops, MachineView, lost, printed}
 abbrev pub IsOthers : Entry → Type 0
 IsOthers (entry.Queued content) = Unit {0}
 IsOthers (entry.Tried number next) = ⊥
-IsOthers (entry.Recorded number) = ⊥
-IsOthers (entry.Raised next) = Unit {0}
+IsOthers (entry.Recorded number h) = ⊥
+IsOthers (entry.Raised next h) = Unit {0}
 IsOthers (entry.Cancelled number) = Unit {0}
 IsOthers (entry.Key key) = Unit {0}
-IsOthers (entry.Renewed last) = ⊥
+IsOthers (entry.Renewed last h) = ⊥
 IsOthers (entry.Earlier number key) = ⊥
 
 -- In a ledger each of these entries may come after those, and after the ones before it.
@@ -82,13 +81,13 @@ EndsCancelled b number before h s =
 -- to be sent over the link of the one before isn't: the link is given up.
 abbrev pub Revises : Then → Book → HostView → HostView → Stage → Type 0
 Revises (then.Send due) b before h s =
-    (WaitsIn b due.number × (b.next + marks_taken due.openings ≤ mark_count) × (h ≡ before)
+    (WaitsIn b due.number × (b.next + marks_taken due.openings ≤ limit_from b.heard) × (h ≡ before)
     × (s ≡ stage.Keeping (entry.Tried due.number (b.next + marks_taken due.openings)) (then.Send due)))
-    ⊎ ((WaitsIn b due.number × (mark_count < b.next + marks_taken due.openings) × Drops before h × (s ≡ stage.HangingUp (note.Waiting due.number (fault.Refused error.MarksUsedUp))))
+    ⊎ ((WaitsIn b due.number × (limit_from b.heard < b.next + marks_taken due.openings) × Drops before h × (s ≡ stage.HangingUp (note.Waiting due.number (fault.Refused error.MarksUsedUp))))
     ⊎ EndsCancelled b due.number before h s)
-Revises (then.Recorded number) b before h s = (WaitsIn b number × (h ≡ before) × (s ≡ printed number)) ⊎ EndsCancelled b number before h s
+Revises (then.Recorded number) b before h s = (WaitsIn b number × (h ≡ before) × (s ≡ printed b number before)) ⊎ EndsCancelled b number before h s
 Revises (then.GoOn number tried due) b before h s =
-    (WaitsIn b number × (h ≡ before) × ((s ≡ printed number) ⊎ GoesFurther b number due.further before s)) ⊎ EndsCancelled b number before h s
+    (WaitsIn b number × (h ≡ before) × ((s ≡ printed b number before) ⊎ GoesFurther b number due.further before s)) ⊎ EndsCancelled b number before h s
 Revises (then.SendNext recorded due) b before h s = Drops before h × (s ≡ stage.HangingUp (note.Recorded recorded))
 Revises next b before h s = ⊥
 

@@ -2,7 +2,6 @@
 use Rattle.std.specs.Prelude.{Bool, true, false, ℕ, zero, suc, ◌≡◌, ◌≢◌, ◌⊎◌, ◌+◌, ◌-◌, ◌<◌, ◌≤◌, max, Option, Some, None, List, [], ◌∷◌, ◌++◌, length}
 use Rattle.escpos_command.specs.declared.command.Command.{Command}
 use Rattle.escpos_command.specs.CommandTable.{AreCommands}
-use Rattle.escpos_command.specs.Digits.{mark_count}
 use Rattle.escpos_host.specs.declared.host.HostError.{HostError}
 use Rattle.escpos_host.specs.declared.host.HostEvent.{HostEvent}
 use Rattle.escpos_host.specs.declared.host.HostEvent.TheVariants as event
@@ -10,7 +9,7 @@ use Rattle.escpos_host.specs.declared.send.SendFault.{SendFault}
 use Rattle.escpos_host.specs.declared.send.SendFault.TheVariants as fault
 use Rattle.escpos_host.specs.Awaits.{RefusesOpening, dialled_reporting}
 use Rattle.escpos_host.specs.Heard.{IsHeard}
-use Rattle.escpos_host.specs.Machine.{HostView, Down, Open, HasMark, RefusesAsk, RefusesSubmit, gone_down, reports_asked, submitted, taken_out}
+use Rattle.escpos_host.specs.Machine.{HostView, Down, Open, HasMark, RefusesAsk, RefusesSubmit, gone_down, limit_from, number_limit, reports_asked, submitted, taken_out}
 use Rattle.escpos_receipt.specs.Whole.{Whole}
 use Rattle.escpos_till.specs.declared.book.Book.{Book}
 use Rattle.escpos_till.specs.declared.entry.Content.{Content}
@@ -38,8 +37,8 @@ use Rattle.escpos_till.specs.Pauses.{IsAfterBlock, no_news, not_paused}
 use Rattle.escpos_till.specs.Tries.{ClosesTry}
 use Rattle.escpos_till.specs.Contents.{GivesReceipt, IsContentFault}
 use Rattle.escpos_till.specs.Delivers.{Due as IsDue, FirstWaits, fresh, marks_taken, most_entries}
-use Rattle.escpos_till.specs.Further.{GoesFurther}
-use Rattle.escpos_till.specs.Entries.{HasKey, IsLedger, MayFollow, Waits, earlier, last_number, next_free, state_of, times_tried, waiting}
+use Rattle.escpos_till.specs.Further.{GoesFurther, heard_by}
+use Rattle.escpos_till.specs.Entries.{HasKey, IsLedger, MayFollow, Waits, earlier, heard, last_number, next_free, state_of, times_tried, waiting}
 
 -- ## The model of a machine
 
@@ -55,20 +54,38 @@ at m s = record { book = m.book; host = m.host; stage = s }
 abbrev pub with_host : MachineView → HostView → Stage → MachineView
 with_host m h s = record { book = m.book; host = h; stage = s }
 
+-- The numbers of the marks that may be put are below this one: no two marks that may still be answered have one id.
+abbrev pub mark_limit : Book → ℕ
+mark_limit b = limit_from b.heard
+
+-- All marks are answered.
+abbrev pub AllAnswered : Book → Type 0
+AllAnswered b = b.heard ≡ b.next
+
 -- The last number to which the next one may be raised: it leaves as many as a try takes, one for an opening mark and one for the closing mark.
-abbrev pub last_first : ℕ
-last_first = mark_count - 2
+-- Where all marks are answered, that is any but the last.
+abbrev pub IsLastFirst : Book → ℕ → Type 0
+IsLastFirst b last = (AllAnswered b × (last ≡ number_limit - 2)) ⊎ ((AllAnswered b → ⊥) × (last ≡ mark_limit b - 2))
+
+-- The number is allowed only where no mark below it can be answered. All of this ledger's own are answered.
+abbrev pub PassesLimit : Book → ℕ → Type 0
+PassesLimit b first = AllAnswered b × (mark_limit b < first + 2)
+
+-- No mark below the number to which the next one is raised can be answered, where that number needs it. Otherwise nothing is said of marks: those
+-- below it may have been put with another ledger.
+abbrev pub IsRaisedTo : Book → ℕ → Entry → Type 0
+IsRaisedTo b first e = (PassesLimit b first × (e ≡ entry.Raised first first)) ⊎ ((PassesLimit b first → ⊥) × (e ≡ entry.Raised first 0))
 
 -- What follows suits the entry.
 abbrev pub Suits : Then → Entry → Type 0
 Suits then.Queued (entry.Queued content) = Unit {0}
 Suits (then.Take content) (entry.Key key) = Unit {0}
-Suits (then.Take content) (entry.Raised next) = Unit {0}
-Suits then.Raised (entry.Raised next) = Unit {0}
+Suits (then.Take content) (entry.Raised next h) = Unit {0}
+Suits then.Raised (entry.Raised next h) = Unit {0}
 Suits (then.Send due) (entry.Tried number next) = number ≡ due.number
-Suits (then.Recorded number) (entry.Recorded n) = n ≡ number
+Suits (then.Recorded number) (entry.Recorded n h) = n ≡ number
 Suits (then.Cancelled number tried) (entry.Cancelled n) = n ≡ number
-Suits (then.GoOn number tried due) (entry.Recorded n) = (n ≡ number) × ((limit : ℕ) × (tried ≡ entry.Tried due.number limit))
+Suits (then.GoOn number tried due) (entry.Recorded n h) = (n ≡ number) × ((limit : ℕ) × (tried ≡ entry.Tried due.number limit))
 Suits (then.SendNext recorded due) (entry.Tried number limit) = number ≡ due.number
 Suits next e = ⊥
 
@@ -91,7 +108,7 @@ entries_to_come next = 0
 
 -- The receipt may be tried.
 abbrev pub MayTry : List Entry → Due → Type 0
-MayTry es due = Waits es due.number × (next_free es + marks_taken due.openings ≤ mark_count) × (length es + 1 < most_entries)
+MayTry es due = Waits es due.number × (next_free es + marks_taken due.openings ≤ limit_from (heard es)) × (length es + 1 < most_entries)
 
 -- The note says what came of a call: not that the printer pauses while it is served.
 abbrev pub IsFinal : TillNote → Type 0
@@ -131,9 +148,9 @@ abbrev pub SendsReceipt : Stage → Type 0
 SendsReceipt (stage.Connecting due) = AreCommands due.receipt × Whole due.receipt
 SendsReceipt s = Unit {0}
 
--- A new machine: it is at rest, with a host that has sent nothing, and whose first mark will have the next number.
+-- A new machine: it is at rest, with a host that has sent nothing, whose first mark will have the next number, and which knows what was heard.
 pub record IsStarted (m : MachineView) : Type 0 where
-  pub host : m.host ≡ fresh m.book.next
+  pub host : m.host ≡ fresh m.book.next m.book.heard
   pub stage : m.stage ≡ stage.AtRest
 
 -- ## What it asks for
@@ -194,7 +211,7 @@ IsNew b None = Unit {0}
 -- next mark number is said once more between them, so that the receipt doesn't get that key.
 abbrev pub taking : Option (List ℕ) → Option (List ℕ) → ℕ → Content → Stage
 taking (Some key) last next content = stage.Keeping (entry.Key key) (then.Take content)
-taking None (Some last) next content = stage.Keeping (entry.Raised next) (then.Take content)
+taking None (Some last) next content = stage.Keeping (entry.Raised next 0) (then.Take content)
 taking None None next content = stage.Keeping (entry.Queued content) then.Queued
 
 -- It is to keep that a receipt with this content is taken, which comes with this key or with none; or, if a receipt has the key, it is to tell
@@ -211,8 +228,12 @@ pub record Queues (m : MachineView) (content : Content) (key : Option (List ℕ)
 pub record Raises (m : MachineView) (first : ℕ) (after : MachineView) : Type 0 where
   pub rest : m.stage ≡ stage.AtRest
   pub least : m.book.next ≤ first
-  pub most : first ≤ last_first
-  pub after_is : after ≡ at m (stage.Keeping (entry.Raised first) then.Raised)
+  pub last : ℕ
+  pub last_is : IsLastFirst m.book last
+  pub most : first ≤ last
+  pub kept : Entry
+  pub kept_is : IsRaisedTo m.book first kept
+  pub after_is : after ≡ at m (stage.Keeping kept then.Raised)
 
 -- It is to keep that a receipt is cancelled, which waits and was tried so often.
 pub record Cancels (m : MachineView) (number : ℕ) (after : MachineView) : Type 0 where
@@ -226,7 +247,7 @@ pub record IsNext (b : Book) (openings most : ℕ) (copy : Option (List ℕ)) (d
   pub marks : due.openings ≡ openings
   pub answers : due.most ≡ most
   pub first : (entries : List Entry) → IsBookOf b entries → IsDue entries copy due.number due.receipt
-  pub within : b.next + marks_taken openings ≤ mark_count
+  pub within : b.next + marks_taken openings ≤ mark_limit b
 
 -- How the receipts after it are sent over the same link, if they are to be.
 abbrev pub further_of : Bool → ℕ → Option (List ℕ) → Option Further
@@ -256,7 +277,7 @@ RefusesAny m why = ⊥
 -- Why the next mark number isn't raised to this one.
 abbrev pub RefusesRaise : MachineView → ℕ → TillRefusal → Type 0
 RefusesRaise m first (refusal.MarkReused next) = (m.stage ≡ stage.AtRest) × (next ≡ m.book.next) × (first < next)
-RefusesRaise m first (refusal.MarkTooHigh last) = (m.stage ≡ stage.AtRest) × (m.book.next ≤ first) × (last ≡ last_first) × (last < first)
+RefusesRaise m first (refusal.MarkTooHigh last) = (m.stage ≡ stage.AtRest) × (m.book.next ≤ first) × IsLastFirst m.book last × (last < first)
 RefusesRaise m first why = RefusesAny m why
 
 -- Why a receipt isn't cancelled: it was never taken, or an older ledger has taken it; or it is recorded, or cancelled.
@@ -278,7 +299,7 @@ abbrev pub RefusesDeliver : MachineView → ℕ → TillRefusal → Type 0
 RefusesDeliver m openings refusal.NothingWaits = (m.stage ≡ stage.AtRest) × ((entries : List Entry) → IsBookOf m.book entries → waiting entries ≡ [])
 RefusesDeliver m openings (refusal.NoReceipt number why) = (m.stage ≡ stage.AtRest) × OfFirst m.book number (λ content. IsContentFault why content)
 RefusesDeliver m openings (refusal.MarksUsedUp number) =
-    (m.stage ≡ stage.AtRest) × OfFirst m.book number (λ content. Unit {0}) × (mark_count < m.book.next + marks_taken openings)
+    (m.stage ≡ stage.AtRest) × OfFirst m.book number (λ content. Unit {0}) × (mark_limit m.book < m.book.next + marks_taken openings)
 RefusesDeliver m openings why = RefusesAny m why
 
 -- It has the same entries, whatever room it has for more.
@@ -318,11 +339,12 @@ after_news (Some recorded) talk =
     record { number = talk.number; receipt = talk.receipt; left = talk.left; paused = talk.paused; further = talk.further; recorded = None }
 after_news None talk = with_pause talk (no_news talk.paused)
 
--- A fresh host, whose first mark has this number, puts the opening marks out, after a request for automatic status; or it refuses to.
-abbrev pub Opens : Due → ℕ → HostView → Stage → Type 0
-Opens due first h s =
-    ((h ≡ dialled_reporting (fresh first) (max due.openings 1)) × (s ≡ stage.Talking (first_talk due)))
-    ⊎ ((why : HostError) × RefusesOpening why (fresh first) (max due.openings 1) h × (s ≡ stage.HangingUp (note.Waiting due.number (fault.Refused why))))
+-- A fresh host, whose first mark has this number, and which knows what was heard, puts the opening marks out, after a request for automatic status; or
+-- it refuses to.
+abbrev pub Opens : Due → ℕ → ℕ → HostView → Stage → Type 0
+Opens due first heard h s =
+    ((h ≡ dialled_reporting (fresh first heard) (max due.openings 1)) × (s ≡ stage.Talking (first_talk due)))
+    ⊎ ((why : HostError) × RefusesOpening why (fresh first heard) (max due.openings 1) h × (s ≡ stage.HangingUp (note.Waiting due.number (fault.Refused why))))
 
 -- A host whose link is open is given the receipt, after a request for automatic status; or it refuses one of them.
 abbrev pub Sends : List Command → HostView → HostView → Type 0
@@ -344,7 +366,7 @@ Follows then.Queued before first b h s = (number : ℕ) × (number ≡ b.earlier
 Follows (then.Take content) before first b h s = (h ≡ before) × (s ≡ stage.Keeping (entry.Queued content) then.Queued)
 Follows then.Raised before first b h s = (h ≡ before) × (s ≡ stage.Telling note.Raised)
 Follows (then.Cancelled number tried) before first b h s = (h ≡ before) × (s ≡ stage.Telling (note.Cancelled number tried))
-Follows (then.Send due) before first b h s = Opens due first h s
+Follows (then.Send due) before first b h s = Opens due first b.heard h s
 Follows (then.Recorded number) before first b h s = Drops before h × (s ≡ stage.HangingUp (note.Recorded number))
 Follows (then.GoOn number tried due) before first b h s = (h ≡ before) × (s ≡ stage.Keeping tried (then.SendNext number due))
 Follows (then.SendNext recorded due) before first b h s = SendsNext recorded due before h s
@@ -401,21 +423,22 @@ Submits talk receipt left before h s = GoesOn talk left before h s
 abbrev pub Hears : Talk → List ℕ → ℕ → HostView → HostView → Stage → Type 0
 Hears talk block left before h s = (p : Paused) × IsAfterBlock talk.paused block p × GoesOn (with_pause talk p) left before h s
 
--- The receipt is printed: that is to be kept.
-abbrev pub printed : ℕ → Stage
-printed number = stage.Keeping (entry.Recorded number) (then.Recorded number)
+-- The receipt is printed: that is to be kept, with what the host has heard.
+abbrev pub printed : Book → ℕ → HostView → Stage
+printed b number h = stage.Keeping (entry.Recorded number (heard_by b h)) (then.Recorded number)
 
 -- What an event does, where so many bytes of answers may still be read. An answer to a mark of an older link that closed a try of the
--- receipt shows that it is printed; so it isn't sent again.
+-- receipt shows that it is printed; so it isn't sent again. That mark is one of which the ledger doesn't know yet, and the host does, that it
+-- can't be answered any more.
 abbrev pub Turns : Book → HostEvent → Talk → ℕ → HostView → HostView → Stage → Type 0
 Turns b event.None talk left before h s = GoesOn talk left before h s
 Turns b (event.Status byte) talk left before h s = GoesOn talk left before h s
 Turns b (event.Condition block) talk left before h s = Hears talk block left before h s
 Turns b event.Opened talk left before h s = Submits talk talk.receipt left before h s
-Turns b (event.Recorded place) talk left before h s = (h ≡ before) × ((s ≡ printed talk.number) ⊎ GoesFurther b talk.number talk.further before s)
+Turns b (event.Recorded place) talk left before h s = (h ≡ before) × ((s ≡ printed b talk.number before) ⊎ GoesFurther b talk.number talk.further before s)
 Turns b (event.Late id) talk left before h s =
-    (ClosesTry b.tries.items talk.number id × (h ≡ before) × (s ≡ printed talk.number))
-    ⊎ ((ClosesTry b.tries.items talk.number id → ⊥) × GoesOn talk left before h s)
+    (ClosesTry b.tries.items b.heard before.heard talk.number id × (h ≡ before) × (s ≡ printed b talk.number before))
+    ⊎ ((ClosesTry b.tries.items b.heard before.heard talk.number id → ⊥) × GoesOn talk left before h s)
 Turns b (event.BadAnswer place) talk left before h s = Drops before h × (s ≡ stage.HangingUp (note.Waiting talk.number fault.BadAnswer))
 
 -- A host hears bytes up to the first event, and with no link none of them.

@@ -6,7 +6,7 @@ use Rattle.escpos_till.specs.declared.entry.Entry.TheVariants as entry
 use Rattle.escpos_till.specs.declared.keyed.Keyed.{Keyed}
 use Rattle.escpos_till.specs.declared.renewing.TheConstants.{KEYS_KEPT}
 use Rattle.escpos_till.specs.declared.tries.Try.{Try}
-use Rattle.escpos_till.specs.Entries.{HasKey, IsLedger, Waits, cancelled, contents, earlier, last_number, next_free, recorded, times_tried, waiting}
+use Rattle.escpos_till.specs.Entries.{HasKey, IsLedger, Waits, cancelled, contents, earlier, heard, last_number, next_free, recorded, times_tried, waiting}
 use Rattle.escpos_till.specs.Keyed.{ListsKey}
 use Rattle.escpos_till.specs.Tries.{HasTry, tries}
 
@@ -18,7 +18,7 @@ abbrev pub tries_above : ℕ → List Try → List Try
 tries_above last ts = filter (λ t. nat_lt last t.number) ts
 
 -- This ledger goes on from the older one. It has the receipts from the first that waits there on, with their numbers, contents and tries, the last
--- number of a receipt, the next mark number, and the keys of its last receipts and of those that wait; the receipts before these it has no more.
+-- number of a receipt, the next mark number, what is heard of marks, and the keys of its last receipts and of those that wait; the receipts before these it has no more.
 pub record Renews (old new : List Entry) : Type 0 where
   pub ledger : IsLedger new
   pub waiting : waiting new ≡ waiting old
@@ -26,6 +26,7 @@ pub record Renews (old new : List Entry) : Type 0 where
   pub times : (number : ℕ) → Waits old number → times_tried new number ≡ times_tried old number
   pub tries : (number closing : ℕ) → Waits old number → HasTry (tries new) number closing ↔ HasTry (tries old) number closing
   pub next : next_free new ≡ next_free old
+  pub heard : heard new ≡ heard old
   pub last : last_number new ≡ last_number old
   pub over : (number : ℕ) → number ≤ earlier new → Waits old number → ⊥
   pub no_later : Waits old (earlier new + 1) ⊎ (earlier new ≡ last_number old)
@@ -47,11 +48,11 @@ pub record KeysAgree (b : Book) (last : ℕ) (keys : List Keyed) : Type 0 where
 abbrev pub is_carried : ℕ → ℕ → Entry → Bool
 is_carried last skip (entry.Queued content) = skip == 0
 is_carried last skip (entry.Tried number next) = nat_lt last number
-is_carried last skip (entry.Recorded number) = nat_lt last number
-is_carried last skip (entry.Raised next) = false
+is_carried last skip (entry.Recorded number h) = nat_lt last number
+is_carried last skip (entry.Raised next h) = false
 is_carried last skip (entry.Cancelled number) = nat_lt last number
 is_carried last skip (entry.Key key) = false
-is_carried last skip (entry.Renewed older) = false
+is_carried last skip (entry.Renewed older h) = false
 is_carried last skip (entry.Earlier number key) = false
 
 -- The new entries have of the old ones what is about receipts with numbers above this one. Where the old ones go on from a ledger, it has taken the

@@ -11,8 +11,9 @@ ghost use Rattle.escpos_till.specs.declared.state.ReceiptState.TheVariants as st
 ghost use Rattle.escpos_till.specs.States.{IsEnded};
 ghost use Rattle.escpos_till.specs.Contents.{content_with};
 ghost use Rattle.escpos_till.specs.Book.{HasRoom, HasTryRoom, IsBookOf, NeedsNoRoom, Notes, StandsAt};
-ghost use Rattle.escpos_till.specs.Entries.{HasKey, IsLedger, MayFollow, Waits, earlier, last_number, state_of, times_tried, waiting};
-ghost use Rattle.escpos_till.specs.Delivers.{FirstWaits};
+ghost use Rattle.escpos_till.specs.Entries.{HasKey, heard_said, IsLedger, MayFollow, Waits, earlier, last_number, state_of, times_tried, waiting};
+ghost use Rattle.escpos_till.specs.Delivers.{FirstWaits, marks_taken};
+ghost use Rattle.escpos_till.specs.Machine.{mark_limit};
 ghost use Rattle.escpos_till.specs.Learning.{FollowAll, NotesAll};
 
 use crate::entry::{Content, Entry};
@@ -22,7 +23,7 @@ use crate::number::ReceiptNumber;
 use crate::state::{
     ReceiptState, first_besides, first_waiting_from, once_cancelled, one_try_more, tries_in,
 };
-use crate::tries::Try;
+use crate::tries::{Try, end_of_tries, limit_from};
 use crate::waiting::WaitingReceipt;
 use std::alloc::{AllocError, Global};
 
@@ -61,6 +62,8 @@ pub struct Book {
     pub(crate) last_key: Option<ReceiptKey>,
     /// The next mark number.
     pub(crate) next: u32,
+    /// No mark with a number below this one can be answered any more.
+    pub(crate) heard: u32,
     /// How many entries there are.
     pub(crate) count: usize,
 }
@@ -81,6 +84,7 @@ impl Book {
             keys: Vec::new(alloc),
             last_key: None,
             next: 0,
+            heard: 0,
             count: 0,
         }
     }
@@ -200,13 +204,60 @@ impl Book {
     {
         match entry {
             Entry::Queued { .. } => true,
-            Entry::Tried { number, next } => self.tried(*number).is_some() && self.next < *next,
-            Entry::Recorded { number } => matches!(self.tried(*number), Some(tried) if 0 < tried),
-            Entry::Raised { next } => self.next <= *next,
+            Entry::Tried { number, next } => self.may_try(*number, *next),
+            Entry::Recorded { number, heard } => self.may_record(*number, *heard),
+            Entry::Raised { next, heard } => self.may_raise(*next, *heard),
             Entry::Cancelled { number } => self.tried(*number).is_some(),
             Entry::Key { key } => self.is_new(key),
             Entry::Renewed { .. } => self.count == 0,
             Entry::Earlier { number, key } => self.may_have(*number, key),
+        }
+    }
+
+    // Whether a receipt may be tried with mark numbers below this one.
+    fn may_try(&self, number: ReceiptNumber, next: u32) -> bool
+        ensures { (entries : List Entry) → IsBookOf self.now entries → IsTrue result ↔ MayFollow entries (entry_kind.Tried number next) }
+    {
+        self.tried(number).is_some() && self.next < next && next <= self.mark_limit()
+    }
+
+    // Whether a receipt may be recorded, where no mark below that number can be answered any more.
+    fn may_record(&self, number: ReceiptNumber, heard: u32) -> bool
+        ensures { (entries : List Entry) → IsBookOf self.now entries → IsTrue result ↔ MayFollow entries (entry_kind.Recorded number heard) }
+    {
+        matches!(self.tried(number), Some(tried) if 0 < tried) && heard <= self.next
+    }
+
+    // Whether the next mark number may be raised to this one, and what is heard to that.
+    fn may_raise(&self, next: u32, heard: u32) -> bool
+        ensures { (entries : List Entry) → IsBookOf self.now entries → IsTrue result ↔ MayFollow entries (entry_kind.Raised next heard) }
+    {
+        self.next <= next && (heard == 0 || (heard == next && self.heard == self.next))
+    }
+
+    /// The numbers of the marks that may be put are below this one: no two marks that may still be answered have one id.
+    pub(crate) fn mark_limit(&self) -> u32
+        ensures { result ≡ mark_limit self.now }
+    {
+        limit_from(self.heard)
+    }
+
+    /// Whether there are numbers for the marks of a try with so many opening marks.
+    pub(crate) fn has_marks(&self, openings: u32) -> bool
+        ensures { IsTrue result ↔ self.now.next + marks_taken openings ≤ mark_limit self.now }
+    {
+        let marks = openings.max(1) as u64 + 1;
+        self.next as u64 + marks <= self.mark_limit() as u64
+    }
+
+    // What an entry says of marks that can't be answered any more, which says that a receipt is recorded.
+    fn said(&self, number: ReceiptNumber, heard: u32) -> u32
+        ensures { (entries : List Entry) → IsBookOf self.now entries → IsLedger entries → result ≡ heard_said entries (entry_kind.Recorded number heard) }
+    {
+        if heard == 0 {
+            end_of_tries(&self.tries, number)
+        } else {
+            heard
         }
     }
 
@@ -223,9 +274,9 @@ impl Book {
     /// The first receipt that waits but for this one: that would be the first once this one is recorded. `None` if none does.
     pub(crate) fn first_besides(&self, number: ReceiptNumber) -> Option<WaitingReceipt<'_>>
         requires { (entries : List Entry) × IsBookOf self.now entries }
-        ensures first { (entries : List Entry) → IsBookOf self.now entries → MayFollow entries (entry_kind.Recorded number) → IfSome result (λ first.
-            FirstWaits (entries ++ entry_kind.Recorded number ∷ []) first.number (content_with first.options first.content.now) first.tried
-            × Waits (entries ++ entry_kind.Recorded number ∷ []) first.number) }
+        ensures first { (entries : List Entry) (heard : ℕ) → IsBookOf self.now entries → MayFollow entries (entry_kind.Recorded number heard) → IfSome result (λ first.
+            FirstWaits (entries ++ entry_kind.Recorded number heard ∷ []) first.number (content_with first.options first.content.now) first.tried
+            × Waits (entries ++ entry_kind.Recorded number heard ∷ []) first.number) }
     {
         let place = number.get().saturating_sub(1 + self.earlier as usize);
         self.waiting_at(first_besides(&self.states, self.first_waiting, place))
@@ -315,7 +366,7 @@ impl Book {
         requires try_room { (number next : ℕ) → entry ≡ entry_kind.Tried number next → HasTryRoom self.old }
         ensures notes { Notes self.old entry self.new }
         ensures room { NeedsNoRoom entry → HasRoom self.old → HasRoom self.new }
-        ensures try_room { (number : ℕ) → entry ≡ entry_kind.Recorded number → HasTryRoom self.old → HasTryRoom self.new }
+        ensures try_room { (number heard : ℕ) → entry ≡ entry_kind.Recorded number heard → HasTryRoom self.old → HasTryRoom self.new }
     {
         match entry {
             Entry::Queued { content } => self.note_queued(content),
@@ -330,9 +381,10 @@ impl Book {
                 self.last_key = None;
                 self.count += 1;
             }
-            Entry::Recorded { number } => self.note_recorded(number),
-            Entry::Raised { next } => {
+            Entry::Recorded { number, heard } => self.note_recorded(number, heard),
+            Entry::Raised { next, heard } => {
                 self.next = next;
+                self.heard = self.heard.max(heard);
                 self.last_key = None;
                 self.count += 1;
             }
@@ -341,8 +393,9 @@ impl Book {
                 self.last_key = Some(key);
                 self.count += 1;
             }
-            Entry::Renewed { last } => {
+            Entry::Renewed { last, heard } => {
                 self.earlier = last;
+                self.heard = self.heard.max(heard);
                 self.last_key = None;
                 self.count += 1;
             }
@@ -370,12 +423,14 @@ impl Book {
         }
     }
 
-    // Takes into account that a receipt is recorded.
-    fn note_recorded(&mut self, number: ReceiptNumber)
-        requires follows { (entries : List Entry) × IsBookOf self.old entries × IsLedger entries × MayFollow entries (entry_kind.Recorded number) × (length entries < 2 ^ 63) }
-        ensures notes { Notes self.old (entry_kind.Recorded number) self.new }
+    // Takes into account that a receipt is recorded, and that no mark below that number can be answered any more; 0 stands for the number after
+    // the closing mark of the receipt's last try.
+    fn note_recorded(&mut self, number: ReceiptNumber, heard: u32)
+        requires follows { (entries : List Entry) × IsBookOf self.old entries × IsLedger entries × MayFollow entries (entry_kind.Recorded number heard) × (length entries < 2 ^ 63) }
+        ensures notes { Notes self.old (entry_kind.Recorded number heard) self.new }
         ensures try_room { HasTryRoom self.old → HasTryRoom self.new }
     {
+        self.heard = self.heard.max(self.said(number, heard));
         let place = self.place(number);
         self.states[place] = ReceiptState::Recorded {
             place: self.recorded,

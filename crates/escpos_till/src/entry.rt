@@ -123,13 +123,17 @@ pub enum Entry {
         number: ReceiptNumber,
         next: u32,
     },
-    /// The answer to the receipt's closing mark has come: it is printed.
+    /// The answer to the receipt's closing mark has come: it is printed. No mark with a number below `heard` can be answered any more; 0 stands
+    /// for the number after the closing mark of the receipt's last try, as in files of before.
     Recorded {
         number: ReceiptNumber,
+        heard: u32,
     },
-    /// The next mark number is this one, since those below it were used elsewhere.
+    /// The next mark number is this one, since those below it were used elsewhere. No mark with a number below `heard` can be answered any
+    /// more: that is `next` where that is so, and 0, which says nothing, otherwise.
     Raised {
         next: u32,
+        heard: u32,
     },
     /// The receipt is cancelled: it waits no more, and isn't sent again.
     Cancelled {
@@ -139,9 +143,11 @@ pub enum Entry {
     Key {
         key: ReceiptKey,
     },
-    /// The ledger goes on from an older one, which has taken the receipts with numbers up to `last`. They are over.
+    /// The ledger goes on from an older one, which has taken the receipts with numbers up to `last`. They are over. No mark with a number below
+    /// `heard` can be answered any more.
     Renewed {
         last: u32,
+        heard: u32,
     },
     /// The receipt with this number, which the older ledger has taken, came with this key.
     Earlier {
@@ -164,11 +170,29 @@ impl Entry {
                     next: last,
                 },
             ) => number == other && next == last,
-            (Entry::Recorded { number }, Entry::Recorded { number: other }) => number == other,
-            (Entry::Raised { next }, Entry::Raised { next: other }) => next == other,
+            (
+                Entry::Recorded { number, heard },
+                Entry::Recorded {
+                    number: other,
+                    heard: mark,
+                },
+            ) => number == other && heard == mark,
+            (
+                Entry::Raised { next, heard },
+                Entry::Raised {
+                    next: other,
+                    heard: mark,
+                },
+            ) => next == other && heard == mark,
             (Entry::Cancelled { number }, Entry::Cancelled { number: other }) => number == other,
             (Entry::Key { key }, Entry::Key { key: other }) => key.is_same(other),
-            (Entry::Renewed { last }, Entry::Renewed { last: other }) => last == other,
+            (
+                Entry::Renewed { last, heard },
+                Entry::Renewed {
+                    last: other,
+                    heard: mark,
+                },
+            ) => last == other && heard == mark,
             (
                 Entry::Earlier { number, key },
                 Entry::Earlier {
@@ -192,11 +216,20 @@ impl Entry {
                 number: *number,
                 next: *next,
             }),
-            Entry::Recorded { number } => Ok(Entry::Recorded { number: *number }),
-            Entry::Raised { next } => Ok(Entry::Raised { next: *next }),
+            Entry::Recorded { number, heard } => Ok(Entry::Recorded {
+                number: *number,
+                heard: *heard,
+            }),
+            Entry::Raised { next, heard } => Ok(Entry::Raised {
+                next: *next,
+                heard: *heard,
+            }),
             Entry::Cancelled { number } => Ok(Entry::Cancelled { number: *number }),
             Entry::Key { key } => Ok(Entry::Key { key: key.copy() }),
-            Entry::Renewed { last } => Ok(Entry::Renewed { last: *last }),
+            Entry::Renewed { last, heard } => Ok(Entry::Renewed {
+                last: *last,
+                heard: *heard,
+            }),
             Entry::Earlier { number, key } => Ok(Entry::Earlier {
                 number: *number,
                 key: key.copy(),

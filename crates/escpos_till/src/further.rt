@@ -16,9 +16,10 @@ ghost use Rattle.escpos_till.specs.Machine.{IsGoingOn, printed};
 use crate::book::{Book, MOST_ENTRIES};
 use crate::copy::CopyLine;
 use crate::entry::Entry;
-use crate::machine::{Due, MARK_COUNT, Stage, Then};
+use crate::machine::{Due, Stage, Then};
 use crate::number::ReceiptNumber;
-use crate::talking::printed;
+use crate::talking::{printed, recorded};
+use crate::tries::limit_from;
 use crate::waiting::WaitingReceipt;
 use escpos_host::{Host, HostState};
 use escpos_receipt::{JsonError, Receipt};
@@ -59,7 +60,7 @@ pub(crate) fn printed_or_further(
     may: bool,
 ) -> Stage
     requires book { (entries : List Entry) × IsBookOf book.now entries }
-    ensures is { (result ≡ printed number) ⊎ GoesFurther book.now number further.now host.now result }
+    ensures is { (result ≡ printed book.now number host.now) ⊎ GoesFurther book.now number further.now host.now result }
     ensures may { IsGoingOn result → IsTrue may }
 {
     let due = if may {
@@ -69,7 +70,7 @@ pub(crate) fn printed_or_further(
     };
     match due {
         Some(due) => Stage::Keeping {
-            entry: Entry::Recorded { number },
+            entry: recorded(book, host, number),
             then: Then::GoOn {
                 recorded: number,
                 tried: Entry::Tried {
@@ -79,7 +80,7 @@ pub(crate) fn printed_or_further(
                 due,
             },
         },
-        None => printed(number),
+        None => printed(book, host, number),
     }
 }
 
@@ -100,7 +101,10 @@ fn next_due(
     if host.state() != HostState::Ready || !is_quiet(host) || host.next_mark() != book.next {
         return None;
     }
-    if book.next >= MARK_COUNT || book.count >= MOST_ENTRIES - 2 || !book.has_try_room() {
+    if book.next >= limit_from(host.oldest_mark().min(book.next))
+        || book.count >= MOST_ENTRIES - 2
+        || !book.has_try_room()
+    {
         return None;
     }
     let Some(first) = book.first_besides(number) else {

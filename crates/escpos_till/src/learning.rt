@@ -16,11 +16,12 @@ ghost use Rattle.escpos_till.specs.Machine.{Drops, printed};
 use crate::book::{Book, MOST_ENTRIES, NoBook};
 use crate::entry::Entry;
 use crate::further::{Further, printed_or_further};
-use crate::machine::{Due, MARK_COUNT, Stage, Then, TillNote, marks_taken};
+use crate::machine::{Due, Stage, Then, TillNote, marks_taken};
 use crate::memory_store::copies;
 use crate::number::ReceiptNumber;
 use crate::state::ReceiptState;
 use crate::store::StoreFault;
+use crate::talking::printed;
 use escpos_host::{Host, HostError, SendFault};
 use std::alloc::Global;
 
@@ -189,8 +190,7 @@ fn tried_now(book: &Book, host: &mut Host, due: Due) -> Stage
         Some(ReceiptState::Recorded { .. }) => unreachable!(),
         None => unreachable!(),
     }
-    let marks = marks_taken(due.openings);
-    if marks > MARK_COUNT || book.next > MARK_COUNT - marks {
+    if !book.has_marks(due.openings) {
         host.link_down();
         return Stage::HangingUp(TillNote::Waiting {
             number,
@@ -200,7 +200,7 @@ fn tried_now(book: &Book, host: &mut Host, due: Due) -> Stage
     Stage::Keeping {
         entry: Entry::Tried {
             number,
-            next: book.next + marks,
+            next: book.next + marks_taken(due.openings),
         },
         then: Then::Send(due),
     }
@@ -212,10 +212,7 @@ fn recorded_now(book: &Book, host: &mut Host, number: ReceiptNumber) -> Stage
     ensures { Revises (Then.Recorded number) book.now host.old host.new result }
 {
     match book.state(number) {
-        Some(ReceiptState::Waiting { .. }) => Stage::Keeping {
-            entry: Entry::Recorded { number },
-            then: Then::Recorded(number),
-        },
+        Some(ReceiptState::Waiting { .. }) => printed(book, host, number),
         Some(ReceiptState::Cancelled { tried }) => cancelled_now(host, number, tried),
         Some(ReceiptState::Recorded { .. }) => unreachable!(),
         None => unreachable!(),
@@ -232,7 +229,7 @@ fn further_now(
 ) -> Stage
     requires stands { StandsIn book.now number }
     requires book { (entries : List Entry) × IsBookOf book.now entries }
-    ensures { ((WaitsIn book.now number × (host.new ≡ host.old) × ((result ≡ printed number) ⊎ GoesFurther book.now number further host.old result))
+    ensures { ((WaitsIn book.now number × (host.new ≡ host.old) × ((result ≡ printed book.now number host.old) ⊎ GoesFurther book.now number further host.old result))
         ⊎ EndsCancelled book.now number host.old host.new result) }
 {
     match book.state(number) {

@@ -34,7 +34,7 @@ ghost use Rattle.escpos_host.specs.Machine.{IsSound};
 ghost use Rattle.escpos_till.specs.Delivers.{fresh, marks_taken};
 ghost use Rattle.escpos_till.specs.Learning.{FailsToLearn, IfKeeping, Learned, LearnsAll};
 ghost use Rattle.escpos_till.specs.declared.machine.Talk.{Talk};
-ghost use Rattle.escpos_till.specs.Machine.{Asks, AsksIn, Came, Cancels, Delivers, Ended, EndsFinally, Fits, Follows, IsKnown, IsLinked, IsNew, IsNext, IsPausing, IsStarted, Kept, MayTry, Queues, Raises, RefusesAny, RefusesCancel, RefusesDeliver, RefusesRaise, Rests, SameEntries, SendsReceipt, Unsure, connected, after_news, ended_by, entry_with_at, first_talk, further_of, hung_up, lost, news_of, not_connected, put, taking, told};
+ghost use Rattle.escpos_till.specs.Machine.{Asks, AsksIn, Came, Cancels, Delivers, Ended, EndsFinally, Fits, Follows, IsKnown, IsLastFirst, IsLinked, IsNew, IsNext, IsPausing, IsRaisedTo, IsStarted, Kept, MayTry, Queues, Raises, RefusesAny, RefusesCancel, RefusesDeliver, RefusesRaise, Rests, SameEntries, SendsReceipt, Unsure, connected, after_news, ended_by, entry_with_at, first_talk, further_of, hung_up, lost, news_of, not_connected, put, taking, told};
 
 use crate::book::{Book, MOST_ENTRIES, NoBook};
 use crate::copy::{CopyLine, CopyText};
@@ -54,15 +54,10 @@ use std::alloc::Global;
 use std::marker::Model;
 use std::mem::replace;
 
-// How many mark numbers there are.
-pub(crate) const MARK_COUNT: u32 = 36 * 36 * 36 * 36;
+// The last mark number that leaves enough for a try, where all marks are answered.
+const LAST_FIRST: u32 = u32::MAX - 2;
 
-const _: () = prove!(MARK_COUNT == 1_679_616);
-
-// The last mark number that leaves enough for a try.
-const LAST_FIRST: u32 = MARK_COUNT - 2;
-
-const _: () = prove!(LAST_FIRST == 1_679_614);
+const _: () = prove!(LAST_FIRST == 4_294_967_293);
 
 /// What a machine tells its owner.
 #[derive(Clone, Copy, Debug, PartialEq, Eq)]
@@ -332,7 +327,7 @@ impl TillMachine {
         match Book::of(alloc, entries) {
             Ok(book) => Ok(TillMachine {
                 alloc,
-                host: fresh_host(alloc, book.next),
+                host: fresh_host(alloc, book.next, book.heard),
                 book,
                 stage: Stage::AtRest,
             }),
@@ -471,14 +466,15 @@ impl TillMachine {
         if first < next {
             return Err(TillRefusal::MarkReused { next });
         }
-        if first > LAST_FIRST {
-            return Err(TillRefusal::MarkTooHigh { last: LAST_FIRST });
+        let last = last_first(&self.book);
+        if first > last {
+            return Err(TillRefusal::MarkTooHigh { last });
         }
         if self.book.count >= MOST_ENTRIES {
             return Err(TillRefusal::Memory);
         }
         self.stage = Stage::Keeping {
-            entry: Entry::Raised { next: first },
+            entry: raised(&self.book, first),
             then: Then::Raised,
         };
         Ok(())
@@ -558,8 +554,7 @@ impl TillMachine {
             Err(JsonError::Refused(why)) => return Err(TillRefusal::NoReceipt { number, why }),
             Err(JsonError::Memory) => return Err(TillRefusal::Memory),
         };
-        let marks = marks_taken(openings);
-        if marks > MARK_COUNT || self.book.next > MARK_COUNT - marks {
+        if !self.book.has_marks(openings) {
             return Err(TillRefusal::MarksUsedUp { number });
         }
         if self.book.count >= MOST_ENTRIES - 1 {
@@ -802,7 +797,10 @@ fn taking(book: &Book, key: Option<ReceiptKey>, content: Content) -> Stage
 {
     let entry = match key {
         Some(key) => Entry::Key { key },
-        None if book.last_key.is_some() => Entry::Raised { next: book.next },
+        None if book.last_key.is_some() => Entry::Raised {
+            next: book.next,
+            heard: 0,
+        },
         None => {
             return Stage::Keeping {
                 entry: Entry::Queued { content },
@@ -844,7 +842,7 @@ fn following(alloc: Global, book: &Book, host: &mut Host, first: u32, then: Then
         Then::Raised => Stage::Telling(TillNote::Raised),
         Then::Cancelled { number, tried } => Stage::Telling(TillNote::Cancelled { number, tried }),
         Then::Send(due) => {
-            *host = fresh_host(alloc, first);
+            *host = fresh_host(alloc, first, book.heard);
             opened(host, due)
         }
         Then::Recorded(number) => {
@@ -887,9 +885,29 @@ pub(crate) fn marks_taken(openings: u32) -> u32
     openings.max(1).saturating_add(1)
 }
 
-// A host that has sent nothing yet, and doesn't know which marks of older hosts are answered.
-fn fresh_host(alloc: Global, first: u32) -> Host
-    ensures { result ≡ fresh first }
+// A host that has sent nothing yet, and knows that no mark of older hosts below a number can be answered any more.
+fn fresh_host(alloc: Global, first: u32, heard: u32) -> Host
+    ensures { result ≡ fresh first heard }
 {
-    Host::resume(alloc, first, 0, Vec::new(alloc))
+    Host::resume(alloc, first, heard, Vec::new(alloc))
+}
+
+// The last number to which the next one may be raised.
+fn last_first(book: &Book) -> u32
+    ensures { IsLastFirst book.now result }
+{
+    if book.heard == book.next {
+        LAST_FIRST
+    } else {
+        book.mark_limit() - 2
+    }
+}
+
+// That the next mark number is raised to this one; and, where that is higher than is allowed otherwise, that no mark below it can be answered.
+fn raised(book: &Book, first: u32) -> Entry
+    ensures { IsRaisedTo book.now first result }
+{
+    let passes = book.heard == book.next && first > book.mark_limit() - 2;
+    let heard = if passes { first } else { 0 };
+    Entry::Raised { next: first, heard }
 }

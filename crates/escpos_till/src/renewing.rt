@@ -72,7 +72,10 @@ fn carried_over(
 {
     let mut new = beginning(alloc, book, last)?;
     carry(alloc, entries, book.earlier, last, &mut new)?;
-    new.push(Entry::Raised { next: book.next })?;
+    new.push(Entry::Raised {
+        next: book.next,
+        heard: 0,
+    })?;
     Ok(new)
 }
 
@@ -81,7 +84,10 @@ fn beginning(alloc: Global, book: &Book, last: u32) -> Result<Vec<Entry>, AllocE
     ensures { IfOk result (λ new. SaysNothing last new.items) }
 {
     let mut new = Vec::new(alloc);
-    new.push(Entry::Renewed { last })?;
+    new.push(Entry::Renewed {
+        last,
+        heard: book.heard,
+    })?;
     for keyed in &book.keys {
         if is_over_and_kept(book, last, keyed) {
             new.push(Entry::Earlier {
@@ -173,24 +179,32 @@ fn is_carried(entry: &Entry, skip: u32, last: u32) -> bool
 {
     match entry {
         Entry::Queued { .. } => skip == 0,
-        Entry::Tried { number, .. } | Entry::Recorded { number } | Entry::Cancelled { number } =>
-            (last as usize) < number.get(),
+        Entry::Tried { number, .. }
+        | Entry::Recorded { number, .. }
+        | Entry::Cancelled { number } => (last as usize) < number.get(),
         Entry::Raised { .. } | Entry::Key { .. } | Entry::Renewed { .. } | Entry::Earlier { .. } =>
             false,
     }
 }
 
-// Refuses what is no ledger, or has other keys or another next mark number than the one with this book.
+// Refuses what is no ledger, or has other keys, another next mark number or other marks heard than the one with this book.
 fn check_renewed(alloc: Global, book: &Book, last: u32, new: &[Entry]) -> Result<(), NotRenewed>
     ensures ledger { OnOk result (IsLedger new.now) }
-    ensures agrees { OnOk result ((b : _) × IsBookOf b new.now × (b.next ≡ book.now.next) × KeysAgree book.now last b.keys.items) }
+    ensures agrees { OnOk result ((b : _) × IsBookOf b new.now × (b.next ≡ book.now.next) × (b.heard ≡ book.now.heard) × KeysAgree book.now last b.keys.items) }
     ensures unlike { IfErr result (λ why. (why ≢ NotRenewed.Damaged) × (why ≢ NotRenewed.TooMany)) }
 {
     match Book::of(alloc, new) {
-        Ok(found) if found.next == book.next && keys_agree(book, last, &found) => Ok(()),
+        Ok(found) if has_marks_of(book, &found) && keys_agree(book, last, &found) => Ok(()),
         Ok(_) | Err(NoBook::Damaged) => Err(NotRenewed::Failed),
         Err(NoBook::Memory) => Err(NotRenewed::Memory),
     }
+}
+
+// Whether the second book has the next mark number of the first one, and what is heard.
+fn has_marks_of(book: &Book, found: &Book) -> bool
+    ensures { IsTrue result ↔ ((found.now.next ≡ book.now.next) × (found.now.heard ≡ book.now.heard)) }
+{
+    found.next == book.next && found.heard == book.heard
 }
 
 // Whether a ledger with the second book has of the keys of the first one those that are kept, and no others.

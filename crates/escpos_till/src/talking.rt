@@ -7,6 +7,7 @@ ghost use Rattle.escpos_host.specs.Machine.{Open, reports_asked};
 ghost use Rattle.escpos_till.specs.declared.entry.Entry.{Entry};
 ghost use Rattle.escpos_till.specs.Book.{IsBookOf};
 ghost use Rattle.escpos_till.specs.Delivers.{fresh};
+ghost use Rattle.escpos_till.specs.Further.{heard_by};
 ghost use Rattle.escpos_till.specs.Machine.{Drops, GoesOn, Hears, IsGoingOn, Opens, RefusesSending, Sends, SendsNext, Submits, Turns, printed};
 
 use crate::book::Book;
@@ -23,7 +24,7 @@ use std::alloc::Global;
 
 // A host that has sent nothing puts its opening marks out.
 pub(crate) fn opened(host: &mut Host, due: Due) -> Stage
-    ensures { (first : ℕ) → host.old ≡ fresh first → Opens due first host.new result }
+    ensures { (first heard : ℕ) → host.old ≡ fresh first heard → Opens due first heard host.new result }
 {
     match open_link_reporting(host, due.openings) {
         Ok(()) => Stage::Talking(Talk::first(due)),
@@ -56,8 +57,8 @@ pub(crate) fn turned(
             printed_or_further(alloc, book, host, talk.number, &talk.further, all)
         }
         HostEvent::Late(id) => {
-            if closes_try(&book.tries, talk.number, id) {
-                printed(talk.number)
+            if closes_try(&book.tries, book.heard, host.oldest_mark(), talk.number, id) {
+                printed(book, host, talk.number)
             } else {
                 going_on(host, talk, left)
             }
@@ -93,13 +94,23 @@ fn told_of(host: &mut Host, block: AutomaticStatus, talk: Talk, left: u32) -> St
     )
 }
 
-// The receipt is printed: that is to be kept.
-pub(crate) fn printed(number: ReceiptNumber) -> Stage
-    ensures { result ≡ printed number }
+// The receipt is printed: that is to be kept, with what the host has heard.
+pub(crate) fn printed(book: &Book, host: &Host, number: ReceiptNumber) -> Stage
+    ensures { result ≡ printed book.now number host.now }
 {
     Stage::Keeping {
-        entry: Entry::Recorded { number },
+        entry: recorded(book, host, number),
         then: Then::Recorded(number),
+    }
+}
+
+// That a receipt is recorded, with what the host has heard: no mark below that number can be answered any more.
+pub(crate) fn recorded(book: &Book, host: &Host, number: ReceiptNumber) -> Entry
+    ensures { result ≡ Entry.Recorded number (heard_by book.now host.now) }
+{
+    Entry::Recorded {
+        number,
+        heard: host.oldest_mark().min(book.next),
     }
 }
 

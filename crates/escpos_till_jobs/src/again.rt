@@ -94,7 +94,7 @@ fn earlier_in(entries: &[Entry]) -> u32
     ensures { result ≡ earlier entries.now }
 {
     match entries.first() {
-        Some(Entry::Renewed { last }) => *last,
+        Some(Entry::Renewed { last, .. }) => *last,
         _ => 0,
     }
 }

@@ -150,7 +150,7 @@ fn an_entry_is_not_kept(rt: HostRuntime) {
     let Ok(mut store) = SharedStore::open(rt.alloc(), ledger, &LedgerPath::new("a")) else {
         panic!(&rt; "no store");
     };
-    let raised = Entry::Raised { next: 9 };
+    let raised = Entry::Raised { next: 9, heard: 0 };
     let failed = Err(StoreFault::Failed);
     assert!(&rt; store.append(&raised, None).map(|_| ()) == failed);
     assert!(&rt; store.append(&raised, None).map(|_| ()) == failed);

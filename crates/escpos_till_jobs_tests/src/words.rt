@@ -156,13 +156,13 @@ fn raised_and_listed(rt: HostRuntime) {
     let _store = lists(&rt, rt.alloc(), store, None, tried);
     let recorded = ("1 recorded 0\n2 tried 1\nnext 4\n", Status::Good);
     let reused = ("refused MarkReused 4\n", Status::Refused);
-    let too_high = ("refused MarkTooHigh 1679614\n", Status::Refused);
+    let too_high = ("refused MarkTooHigh 1679616\n", Status::Refused);
     let raised = ("1 recorded 0\n2 tried 1\nnext 7\n", Status::Good);
     let mut store = store_of(&rt, rt.alloc(), &TRIED);
     for (first, told) in [
         (None, recorded),
         (Some(3), reused),
-        (Some(1_679_615), too_high),
+        (Some(1_679_617), too_high),
         (Some(4), recorded),
         (Some(7), raised),
         (None, raised),
@@ -504,7 +504,7 @@ fn damaged(rt: HostRuntime) {
 fn holds_many(rt: &impl Abort, alloc: Global, count: usize) {
     let mut entries = Vec::new(alloc);
     for _ in 0..count {
-        assert!(rt; entries.push(Entry::Raised { next: 5 }).is_ok());
+        assert!(rt; entries.push(Entry::Raised { next: 5, heard: 0 }).is_ok());
     }
     let store = MemoryStore::new(alloc, entries, Failure::Never);
     let store = queues(rt, alloc, store, S, ("queued 1\n", Status::Good));

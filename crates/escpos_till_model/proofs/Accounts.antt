@@ -85,31 +85,31 @@ split_at : {X Y : Type 0} (f : X → Option Y) (xs : List X) (before : List Y) (
 split_at f [] before y following e = absurd (no_split before y following e)
 split_at f (x ∷ xs) before y following e = split_step f x xs before y following (f x) refl (λ front. split_at f xs front y following) e
 
-records_it : (e : Entry) (number : ℕ) → record_of e ≡ Some number → e ≡ Recorded number
+records_it : (e : Entry) (number : ℕ) → record_of e ≡ Some number → (hd : ℕ) × (e ≡ Recorded number hd)
 records_it (Queued content) number is = absurd (let bad : None ≡ Some number = is in cc)
 records_it (Tried n next) number is = absurd (let bad : None ≡ Some number = is in cc)
-records_it (Recorded n) number is = ap Recorded (same_Some n number is)
-records_it (Raised next) number is = absurd (let bad : None ≡ Some number = is in cc)
+records_it (Recorded n hd) number is = (hd, ap (λ k. Recorded k hd) (same_Some n number is))
+records_it (Raised next hd) number is = absurd (let bad : None ≡ Some number = is in cc)
 records_it (Cancelled n) number is = absurd (let bad : None ≡ Some number = is in cc)
 records_it (Key key) number is = absurd (let bad : None ≡ Some number = is in cc)
-records_it (Renewed last) number is = absurd (let bad : None ≡ Some number = is in cc)
+records_it (Renewed last hd) number is = absurd (let bad : None ≡ Some number = is in cc)
 records_it (Earlier k key) number is = absurd (let bad : None ≡ Some number = is in cc)
 
 cancels_it : (e : Entry) (number : ℕ) → cancel_of e ≡ Some number → e ≡ Cancelled number
 cancels_it (Queued content) number is = absurd (let bad : None ≡ Some number = is in cc)
 cancels_it (Tried n next) number is = absurd (let bad : None ≡ Some number = is in cc)
-cancels_it (Recorded n) number is = absurd (let bad : None ≡ Some number = is in cc)
-cancels_it (Raised next) number is = absurd (let bad : None ≡ Some number = is in cc)
+cancels_it (Recorded n hd) number is = absurd (let bad : None ≡ Some number = is in cc)
+cancels_it (Raised next hd) number is = absurd (let bad : None ≡ Some number = is in cc)
 cancels_it (Cancelled n) number is = ap Cancelled (same_Some n number is)
 cancels_it (Key key) number is = absurd (let bad : None ≡ Some number = is in cc)
-cancels_it (Renewed last) number is = absurd (let bad : None ≡ Some number = is in cc)
+cancels_it (Renewed last hd) number is = absurd (let bad : None ≡ Some number = is in cc)
 cancels_it (Earlier k key) number is = absurd (let bad : None ≡ Some number = is in cc)
 
 -- What is recorded waited before, and so did what is cancelled.
 waited : (entries pre post : List Entry) (e : Entry) (number : ℕ) → IsLedger entries → entries ≡ pre ++ e ∷ post → record_of e ≡ Some number → Waits pre number
 waited entries pre post e number ledger is says =
     let follows = ledger pre e post is in
-    let same = records_it e number says in
+    let (hd, same) = records_it e number says in
     (subst (MayFollow pre) same follows).0
 
 waited_too : (entries pre post : List Entry) (e : Entry) (number : ℕ) → IsLedger entries → entries ≡ pre ++ e ∷ post → cancel_of e ≡ Some number → Waits pre number
@@ -119,23 +119,23 @@ waited_too entries pre post e number ledger is says = subst (MayFollow pre) (can
 waits_at : (before : List Entry) (e : Entry) (number : ℕ) → MayFollow before e → IsAbout number e → Waits before number
 waits_at before (Queued content) number follows about = absurd about
 waits_at before (Tried n next) number follows about = subst (Waits before) about follows.0
-waits_at before (Recorded n) number follows about = subst (Waits before) about follows.0
-waits_at before (Raised next) number follows about = absurd about
+waits_at before (Recorded n hd) number follows about = subst (Waits before) about follows.0
+waits_at before (Raised next hd) number follows about = absurd about
 waits_at before (Cancelled n) number follows about = subst (Waits before) about follows
 waits_at before (Key key) number follows about = absurd about
-waits_at before (Renewed last) number follows about = absurd about
+waits_at before (Renewed last hd) number follows about = absurd about
 waits_at before (Earlier k key) number follows about = absurd about
 
 -- It waits no more after its end.
 pub ended_there : (before more : List Entry) (end : Entry) (number : ℕ) → IsEndOf number end → ¬ Waits (before ++ end ∷ more) number
 ended_there before more (Queued content) number ends waits = absurd ends
 ended_there before more (Tried n next) number ends waits = absurd ends
-ended_there before more (Recorded n) number ends waits =
-    no_place (recorded (before ++ Recorded n ∷ more)) number waits.open_still
-    (subst (λ k. Among k (recorded (before ++ Recorded n ∷ more))) ends (recorded before, recorded more, recorded_append before (Recorded n ∷ more)))
-ended_there before more (Raised next) number ends waits = absurd ends
+ended_there before more (Recorded n hd) number ends waits =
+    no_place (recorded (before ++ Recorded n hd ∷ more)) number waits.open_still
+    (subst (λ k. Among k (recorded (before ++ Recorded n hd ∷ more))) ends (recorded before, recorded more, recorded_append before (Recorded n hd ∷ more)))
+ended_there before more (Raised next hd) number ends waits = absurd ends
 ended_there before more (Key key) number ends waits = absurd ends
-ended_there before more (Renewed last) number ends waits = absurd ends
+ended_there before more (Renewed last hd) number ends waits = absurd ends
 ended_there before more (Earlier k key) number ends waits = absurd ends
 ended_there before more (Cancelled n) number ends waits =
     no_place (cancelled (before ++ Cancelled n ∷ more)) number waits.not_cancelled
@@ -169,11 +169,11 @@ pub times_stay : (entries : List Entry) (e : Entry) (number : ℕ) → MayFollow
     → times_tried (entries ++ e ∷ []) number ≡ times_tried entries number
 times_stay entries (Queued content) number follows among = same_times entries (Queued content) number refl
 times_stay entries (Tried n next) number follows among = same_times entries (Tried n next) number (not_tried entries number n (n == number) refl follows.0 among)
-times_stay entries (Recorded n) number follows among = same_times entries (Recorded n) number refl
-times_stay entries (Raised next) number follows among = same_times entries (Raised next) number refl
+times_stay entries (Recorded n hd) number follows among = same_times entries (Recorded n hd) number refl
+times_stay entries (Raised next hd) number follows among = same_times entries (Raised next hd) number refl
 times_stay entries (Cancelled n) number follows among = same_times entries (Cancelled n) number refl
 times_stay entries (Key key) number follows among = same_times entries (Key key) number refl
-times_stay entries (Renewed last) number follows among = same_times entries (Renewed last) number refl
+times_stay entries (Renewed last hd) number follows among = same_times entries (Renewed last hd) number refl
 times_stay entries (Earlier n key) number follows among = same_times entries (Earlier n key) number refl
 
 -- ## Receipts with their numbers
@@ -218,15 +218,15 @@ not_both : (entries : List Entry) (number : ℕ) → IsLedger entries → Among 
 not_both entries number ledger (before, following, is) cancels =
     let (pre, e, post, split, front, says) = split_at record_of entries before number following is in
     let waits = waited entries pre post e number ledger split says in
-    let same : e ≡ Recorded number = records_it e number says in
-    let here : entries ≡ pre ++ Recorded number ∷ post = split ∙ ap (λ x. pre ++ x ∷ post) same in
-    let parts : cancelled entries ≡ cancelled pre ++ cancelled post = ap cancelled here ∙ cancelled_append pre (Recorded number ∷ post) in
+    let (hd, same) = records_it e number says in
+    let here : entries ≡ pre ++ Recorded number hd ∷ post = split ∙ ap (λ x. pre ++ x ∷ post) same in
+    let parts : cancelled entries ≡ cancelled pre ++ cancelled post = ap cancelled here ∙ cancelled_append pre (Recorded number hd ∷ post) in
     elim (among_either number (cancelled pre) (cancelled post) (subst (λ ns. Among number ns) parts cancels)) [
       | inl earlier ↦ no_place (cancelled pre) number waits.not_cancelled earlier
       | inr (some, others, later) ↦
           let (mid, x, beyond, at, those, cancels_here) = split_at cancel_of post some number others later in
           let is_cancelled : x ≡ Cancelled number = cancels_it x number cancels_here in
-          none_after pre post number (Recorded number) x (subst IsLedger here ledger) refl (mid, beyond, at) (subst (IsAbout number) (sym is_cancelled) refl)
+          none_after pre post number (Recorded number hd) x (subst IsLedger here ledger) refl (mid, beyond, at) (subst (IsAbout number) (sym is_cancelled) refl)
     ]
 
 pub each_is_kept : (entries : List Entry) → IsLedger entries → EachIsKept entries

@@ -19,7 +19,8 @@ use Rattle.escpos_till.specs.declared.machine.Then.TheVariants as then
 use Rattle.std.specs.List.{AllByRecursion}
 use Rattle.escpos_till.specs.Book.{IsBookOf}
 use Rattle.escpos_till.specs.Entries.{IsLedger, MayFollow, Waits, cancelled}
-use Rattle.escpos_till.specs.Further.{GoesFurther}
+use Rattle.escpos_till.specs.Entries.{heard as heard_in}
+use Rattle.escpos_till.specs.Further.{GoesFurther, heard_by}
 use Rattle.escpos_till.specs.Learning.{EndsCancelled, IsOthers, Revises}
 use Rattle.escpos_till.specs.Machine.{Ended, MachineView, Turns as MachineTurns, connected, hung_up, not_connected, printed}
 use Rattle.escpos_till.specs.Tries.{ClosesTry, HasTry, tries}
@@ -48,14 +49,14 @@ Records number (then.GoOn n tried due) = n ≡ number
 Records number next = ⊥
 
 abbrev IsRecordingAt : ℕ → Stage → Type 0
-IsRecordingAt number (stage.Keeping e next) = (e ≡ entry.Recorded number) × Records number next
+IsRecordingAt number (stage.Keeping e next) = ((hd : ℕ) × (e ≡ entry.Recorded number hd)) × Records number next
 IsRecordingAt number s = ⊥
 
-printed_at : (n number : ℕ) → n ≡ number → IsRecordingAt number (printed n)
-printed_at n number same = (ap entry.Recorded same, same)
+printed_at : (b : Book) (n number : ℕ) (h : HostView) → n ≡ number → IsRecordingAt number (printed b n h)
+printed_at b n number h same = ((heard_by b h, ap (λ k. entry.Recorded k (heard_by b h)) same), same)
 
 further_at : (b : Book) (n number : ℕ) (further : Option Further) (h : HostView) (s : Stage) → n ≡ number → GoesFurther b n further h s → IsRecordingAt number s
-further_at b n number further h s same goes = subst (IsRecordingAt number) (sym goes.stage_is) (ap entry.Recorded same, same)
+further_at b n number further h s same goes = subst (IsRecordingAt number) (sym goes.stage_is) ((heard_by b h, ap (λ k. entry.Recorded k (heard_by b h)) same), same)
 
 -- The machine is to keep that, and these entries are there, and after them only such as others add.
 record IsRecording (number : ℕ) (kept : List Entry) (now : World) : Type 0 where
@@ -205,9 +206,9 @@ cancels_in number [] each among = absurd (among_nothing number among)
 cancels_in number (entry.Queued content ∷ others) (is, each) among =
     let (before, rest, all, split) = cancels_in number others each among in
     (entry.Queued content ∷ before, rest, (tt, all), ap (λ v. entry.Queued content ∷ v) split)
-cancels_in number (entry.Raised next ∷ others) (is, each) among =
+cancels_in number (entry.Raised next hd ∷ others) (is, each) among =
     let (before, rest, all, split) = cancels_in number others each among in
-    (entry.Raised next ∷ before, rest, (tt, all), ap (λ v. entry.Raised next ∷ v) split)
+    (entry.Raised next hd ∷ before, rest, (tt, all), ap (λ v. entry.Raised next hd ∷ v) split)
 cancels_in number (entry.Cancelled n ∷ others) (is, each) among = elim (among_cons number n (cancelled others) among) [
   | inl same ↦ ([], others, tt, ap (λ k. entry.Cancelled k ∷ others) same)
   | inr later ↦
@@ -218,23 +219,23 @@ cancels_in number (entry.Key key ∷ others) (is, each) among =
     let (before, rest, all, split) = cancels_in number others each among in
     (entry.Key key ∷ before, rest, (tt, all), ap (λ v. entry.Key key ∷ v) split)
 cancels_in number (entry.Tried n next ∷ others) (is, each) among = absurd is
-cancels_in number (entry.Recorded n ∷ others) (is, each) among = absurd is
-cancels_in number (entry.Renewed last ∷ others) (is, each) among = absurd is
+cancels_in number (entry.Recorded n hd ∷ others) (is, each) among = absurd is
+cancels_in number (entry.Renewed last hd ∷ others) (is, each) among = absurd is
 cancels_in number (entry.Earlier n key ∷ others) (is, each) among = absurd is
 
 -- So the first entry that is kept says that the receipt is recorded.
 kept_first : (number : ℕ) (kept : List Entry) (now mid new : World) (es : List Happening) → IsRecording number kept now → Happens now event.Keep mid → Runs mid es new
     → HasEnded number kept new.kept
 kept_first number kept now mid new es r h runs =
-    let is : h.entry ≡ entry.Recorded number = (subst (IsRecordingAt number) h.moves.goes.0 (stands_so number kept now h.moves.m h.moves.was r)).0 in
-    let here : mid.kept ≡ kept ++ (r.more ++ entry.Recorded number ∷ []) =
-    ap (λ v. v.kept) h.moves.is ∙ ap (λ es. es ++ h.entry ∷ []) r.same ∙ ap (λ x. (kept ++ r.more) ++ x ∷ []) is ∙ append_assoc kept r.more (entry.Recorded number ∷ []) in
-    ends_on number kept mid.kept new.kept (r.more, entry.Recorded number, [], r.each, refl, here) (entries_last mid new es runs)
+    let (hd, is) = (subst (IsRecordingAt number) h.moves.goes.0 (stands_so number kept now h.moves.m h.moves.was r)).0 in
+    let here : mid.kept ≡ kept ++ (r.more ++ entry.Recorded number hd ∷ []) =
+    ap (λ v. v.kept) h.moves.is ∙ ap (λ es. es ++ h.entry ∷ []) r.same ∙ ap (λ x. (kept ++ r.more) ++ x ∷ []) is ∙ append_assoc kept r.more (entry.Recorded number hd ∷ []) in
+    ends_on number kept mid.kept new.kept (r.more, entry.Recorded number hd, [], r.each, refl, here) (entries_last mid new es runs)
 
 revised_at : (number : ℕ) (next : Then) (b : Book) (before h : HostView) (s : Stage) → Records number next → Revises next b before h s → IsRecordingAt number s ⊎ EndsCancelled b number before h s
-revised_at number (then.Recorded n) b before h s same (inl (waits, host, at)) = inl (subst (IsRecordingAt number) (sym at) (printed_at n number same))
+revised_at number (then.Recorded n) b before h s same (inl (waits, host, at)) = inl (subst (IsRecordingAt number) (sym at) (printed_at b n number before same))
 revised_at number (then.Recorded n) b before h s same (inr ends) = inr (subst (λ k. EndsCancelled b k before h s) same ends)
-revised_at number (then.GoOn n tried due) b before h s same (inl (waits, host, inl at)) = inl (subst (IsRecordingAt number) (sym at) (printed_at n number same))
+revised_at number (then.GoOn n tried due) b before h s same (inl (waits, host, inl at)) = inl (subst (IsRecordingAt number) (sym at) (printed_at b n number before same))
 revised_at number (then.GoOn n tried due) b before h s same (inl (waits, host, inr goes)) = inl (further_at b n number due.further before s same goes)
 revised_at number (then.GoOn n tried due) b before h s same (inr ends) = inr (subst (λ k. EndsCancelled b k before h s) same ends)
 revised_at number then.Queued b before h s none revises = absurd none
@@ -253,7 +254,7 @@ learned_first number kept others now mid known r h =
     let (is, records) = subst (IsRecordingAt number) at (stands_so number kept now m h.moves.was r) in
     let (each, notes, revises) = h.moves.goes.1 in
     let p = parts now m h.moves.was known in
-    let follows = subst (MayFollow now.kept) is (subst (λ s. Holds now.kept p.hand (with_earlier p.earlier m.host) s) at p.holds).0 in
+    let follows = subst (MayFollow now.kept) is.1 (subst (λ s. Holds now.kept p.hand (with_earlier p.earlier m.host) s) at p.holds).0 in
     let book : IsBookOf m.book now.kept = p.book (λ lags. subst BookMayLag at lags) in
     let after_book = (notes now.kept book p.account.keeps.ledger).1 in
     let here : mid.kept ≡ kept ++ (r.more ++ others) = ap (λ v. v.kept) h.moves.is ∙ ap (λ es. es ++ others) r.same ∙ append_assoc kept r.more others in
@@ -330,26 +331,29 @@ one_tried kept hand held h wire talk number closing hand_is same account waits_t
     omega (arith, low, high)
 
 answered_at : (kept : List Entry) (b : Book) (e : HostEvent) (talk : Talk) (left number : ℕ) (before h : HostView) (s : Stage) → b.tries.items ≡ tries kept
-    → ((closing : ℕ) → Waits kept number → HasTry (tries kept) number closing → talk.number ≡ number) → IsAnswerTo kept talk e number → MachineTurns b e talk left before h s
+    → b.heard ≡ heard_in kept → ((closing : ℕ) → Waits kept number → HasTry (tries kept) number closing → talk.number ≡ number) → IsAnswerTo kept talk e before number → MachineTurns b e talk left before h s
     → IsRecordingAt number s
-answered_at kept b (heard.Recorded place) talk left number before h s book one is (same, inl now) = subst (IsRecordingAt number) (sym now) (printed_at talk.number number is)
-answered_at kept b (heard.Recorded place) talk left number before h s book one is (same, inr goes) = further_at b talk.number number talk.further before s is goes
-answered_at kept b (heard.Late id) talk left number before h s book one (waits, closes) (inl (own, same, now)) = subst (IsRecordingAt number) (sym now) (printed_at talk.number number (one closes.0 waits closes.3))
-answered_at kept b (heard.Late id) talk left number before h s book one (waits, closes) (inr (other, goes)) =
-    absurd (other (subst (λ ts. ClosesTry ts talk.number id) (sym book) (subst (λ n. ClosesTry (tries kept) n id) (sym (one closes.0 waits closes.3)) closes)))
-answered_at kept b heard.None talk left number before h s book one is turns = absurd is
-answered_at kept b heard.Opened talk left number before h s book one is turns = absurd is
-answered_at kept b (heard.Status byte) talk left number before h s book one is turns = absurd is
-answered_at kept b (heard.Condition block) talk left number before h s book one is turns = absurd is
-answered_at kept b (heard.BadAnswer place) talk left number before h s book one is turns = absurd is
+answered_at kept b (heard.Recorded place) talk left number before h s book known one is (same, inl now) = subst (IsRecordingAt number) (sym now) (printed_at b talk.number number before is)
+answered_at kept b (heard.Recorded place) talk left number before h s book known one is (same, inr goes) = further_at b talk.number number talk.further before s is goes
+answered_at kept b (heard.Late id) talk left number before h s book known one (waits, closes) (inl (own, same, now)) =
+    subst (IsRecordingAt number) (sym now) (printed_at b talk.number number before (one closes.0 waits closes.4))
+answered_at kept b (heard.Late id) talk left number before h s book known one (waits, closes) (inr (other, goes)) =
+    absurd (other (subst (λ ts. ClosesTry ts b.heard before.heard talk.number id) (sym book) (subst (λ hd. ClosesTry (tries kept) hd before.heard talk.number id) (sym known)
+    (subst (λ n. ClosesTry (tries kept) (heard_in kept) before.heard n id) (sym (one closes.0 waits closes.4)) closes))))
+answered_at kept b heard.None talk left number before h s book known one is turns = absurd is
+answered_at kept b heard.Opened talk left number before h s book known one is turns = absurd is
+answered_at kept b (heard.Status byte) talk left number before h s book known one is turns = absurd is
+answered_at kept b (heard.Condition block) talk left number before h s book known one is turns = absurd is
+answered_at kept b (heard.BadAnswer place) talk left number before h s book known one is turns = absurd is
 
 answer_heard : (w new : World) (most number : ℕ) → IsWorld w → HearsAnswer w most number new → IsRecording number w.kept new
 answer_heard w new most number known a =
     let v = a.hears in
     let p = parts w v.m v.was known in
-    let (held, hand_is, same, receipt, follows, records, up, reserved, news) = talking_holds v.m w.kept w.wire v.talk v.talks p in
+    let (held, hand_is, same, receipt, follows, records, up, reserved, news, known) = talking_holds v.m w.kept w.wire v.talk v.talks p in
     let at : IsRecordingAt number v.after.stage =
     answered_at w.kept v.m.book a.event v.talk (v.talk.left - v.consumed) number a.host v.after.host v.after.stage (talking_book v.m w.kept w.wire v.talk v.talks p).tries
+    (talking_book v.m w.kept w.wire v.talk v.talks p).heard
     (λ closing waits has. one_tried w.kept p.hand held (with_earlier p.earlier v.m.host) w.wire v.talk number closing hand_is same p.account follows.0 waits has) a.is a.turns in
     subst (IsRecording number w.kept) (sym v.is) (record { m = v.after; is = refl; at = at; more = []; each = tt; same = sym (append-nil w.kept) })
 

@@ -191,11 +191,11 @@ lost_quiet (then.SendNext recorded due) why = tt
 pub grows : (kept : List Entry) (e : Entry) → MayFollow kept e → next_free kept ≤ next_free (kept ++ e ∷ [])
 grows kept (entry.Queued content) follows = omega (arith, next_after_queued kept content)
 grows kept (entry.Tried number next) follows = omega (arith, next_after_tried kept number next, follows.1)
-grows kept (entry.Recorded number) follows = omega (arith, next_after_recorded kept number)
-grows kept (entry.Raised next) follows = omega (arith, next_after_raised kept next, follows)
+grows kept (entry.Recorded number hd) follows = omega (arith, next_after_recorded kept number hd)
+grows kept (entry.Raised next hd) follows = omega (arith, next_after_raised kept next hd, follows.0)
 grows kept (entry.Cancelled number) follows = omega (arith, next_after_cancelled kept number)
 grows kept (entry.Key key) follows = omega (arith, next_after_key kept key)
-grows kept (entry.Renewed last) follows = omega (arith, next_after_renewed kept last)
+grows kept (entry.Renewed last hd) follows = omega (arith, next_after_renewed kept last hd)
 grows kept (entry.Earlier number key) follows = omega (arith, next_after_earlier kept number key)
 
 -- ## What goes on without a byte
@@ -602,7 +602,7 @@ kept_by ids (then.Send due) low links kept hand h m after e first host_same may 
       (record { said = []; unsaid = []; used = 0; begins = refl; commands = tt; marks_are = refl; within = omega (arith, limit); no_real_time = nothing_held }, own),
       elim follows [
         | inl opened ↦
-            let host : after.host ≡ dialled_reporting (fresh (next_free kept)) openings = opened.0 ∙ ap (λ f. dialled_reporting (fresh f) openings) first in
+            let host : after.host ≡ dialled_reporting (fresh (next_free kept) after.book.heard) openings = opened.0 ∙ ap (λ f. dialled_reporting (fresh f after.book.heard) openings) first in
             subst (λ s. TalksOn s after.host (l ∷ links)) (sym opened.1) (subst (λ v. IsSaying l v (Some due.receipt)) (sym host) (record {
               said = ask_reports ∷ marks_from openings (next_free kept);
               used = openings;

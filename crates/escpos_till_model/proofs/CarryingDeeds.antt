@@ -114,22 +114,22 @@ given_on ids (b ∷ bs) talk m after links at fits talks (counts, hears) = all_h
 
 first_link : (kept : List Entry) (e : Entry) (content : Content) → Suits (then.Take content) e → link_for kept e ≡ []
 first_link kept (entry.Key key) content suits = refl
-first_link kept (entry.Raised next) content suits = refl
+first_link kept (entry.Raised next hd) content suits = refl
 first_link kept (entry.Queued c) content suits = absurd suits
 first_link kept (entry.Tried n next) content suits = absurd suits
-first_link kept (entry.Recorded n) content suits = absurd suits
+first_link kept (entry.Recorded n hd) content suits = absurd suits
 first_link kept (entry.Cancelled n) content suits = absurd suits
-first_link kept (entry.Renewed last) content suits = absurd suits
+first_link kept (entry.Renewed last hd) content suits = absurd suits
 first_link kept (entry.Earlier k key) content suits = absurd suits
 
 same_link : (next : Then) (kept : List Entry) (hand : Option Hand) (h : HostView) (e : Entry) → IsToKeep kept hand h e next → link_for kept e ≡ link_of next e (next_free kept)
 same_link then.Queued kept hand h e (none, content, is) = ap (link_for kept) is
 same_link (then.Take content) kept hand h e (none, suits) = first_link kept e content suits
-same_link then.Raised kept hand h e (none, first, is) = ap (link_for kept) is
+same_link then.Raised kept hand h e (none, first, hd, is) = ap (link_for kept) is
 same_link (then.Cancelled number tried) kept hand h e (none, is, times) = ap (link_for kept) is
 same_link (then.Send due) kept hand h e (none, sends, is) = ap (link_for kept) is ∙ sym (ap (λ x. link_of (then.Send due) x (next_free kept)) is)
-same_link (then.Recorded number) kept hand h e (held, hand_is, number_is, is, fewer, up) = ap (link_for kept) is
-same_link (then.GoOn number tried due) kept hand h e ((held, hand_is, number_is, is, fewer, up), sends) = ap (link_for kept) is
+same_link (then.Recorded number) kept hand h e (held, hand_is, number_is, (hd, is, some, heard_so), fewer, up) = ap (link_for kept) is
+same_link (then.GoOn number tried due) kept hand h e ((held, hand_is, number_is, (hd, is, some, heard_so), fewer, up), sends) = ap (link_for kept) is
 same_link (then.SendNext number due) kept hand h e (held, hand_is, records, sends, so) =
     ap (link_for kept) sends.tried_is ∙ sym (ap (λ x. link_of (then.SendNext number due) x (next_free kept)) sends.tried_is)
 

@@ -94,14 +94,14 @@ answered_off : (m mid : MachineView) (w : World) (a : Around) (it : Answers m mi
 answered_off m mid w a it note dropped told up down' same is =
     answered m mid w a it (stage.HangingUp note) (given_up w.wire) told is (wired_off m.host mid.host w.wire up down') (down', ap given_up same)
 
-refused_down : (why : HostError) (first openings : ℕ) (h : HostView) → RefusesOpening why (fresh first) openings h → h.phase ≡ Down
-refused_down error.AlreadyUp first openings h (up, same) = absurd (up refl)
-refused_down error.MarksUsedUp first openings h (down, inl (none, same)) = ap (λ v. v.phase) same
-refused_down error.MarksUsedUp first openings h (down, inr (used, some, few, all, same)) = ap (λ v. v.phase) same
-refused_down error.Memory first openings h (down, may, inl same) = ap (λ v. v.phase) same
-refused_down error.Memory first openings h (down, may, inr (used, some, few, within, same)) = ap (λ v. v.phase) same
-refused_down error.NotReady first openings h refused = absurd refused
-refused_down error.InFlightFull first openings h refused = absurd refused
+pub refused_down : (why : HostError) (first heard openings : ℕ) (h : HostView) → RefusesOpening why (fresh first heard) openings h → h.phase ≡ Down
+refused_down error.AlreadyUp first heard openings h (up, same) = absurd (up refl)
+refused_down error.MarksUsedUp first heard openings h (down, inl (none, same)) = ap (λ v. v.phase) same
+refused_down error.MarksUsedUp first heard openings h (down, inr (used, some, few, all, same)) = ap (λ v. v.phase) same
+refused_down error.Memory first heard openings h (down, may, inl same) = ap (λ v. v.phase) same
+refused_down error.Memory first heard openings h (down, may, inr (used, some, few, within, same)) = ap (λ v. v.phase) same
+refused_down error.NotReady first heard openings h refused = absurd refused
+refused_down error.InFlightFull first heard openings h refused = absurd refused
 
 -- No bytes are dropped.
 lags_none : (w near : WireView) → w ≡ near → w ≡ with_more [] near
@@ -125,7 +125,7 @@ kept_so (then.Cancelled number tried) m mid w a e it notes (down, same) (host, a
 kept_so (then.Send due) m mid w a e it notes (down, (events, goes)) (inl (host, at)) =
     answered_sent m mid w a it _ events notes down (subst (λ h. h.phase ≢ Down) (sym host) (λ bad. cc bad)) goes at
 kept_so (then.Send due) m mid w a e it notes (down, (events, goes)) (inr (why, refused, at)) =
-    answered_unsent m mid w a it _ events notes down (refused_down why m.book.next (max due.openings 1) mid.host refused) goes at
+    answered_unsent m mid w a it _ events notes down (refused_down why m.book.next mid.book.heard (max due.openings 1) mid.host refused) goes at
 kept_so (then.Recorded number) m mid w a e it notes (up, (dropped, same)) (drops, at) = answered_off m mid w a it _ dropped notes up (gone m.host mid.host drops) same at
 kept_so (then.GoOn number tried due) m mid w a e it notes (up, same) (host, at) = answered_on m mid w a it (stage.Keeping tried (then.SendNext number due)) notes up host same at (λ on. on)
 kept_so (then.SendNext number due) m mid w a e it notes (up, same) (inl ((phase, mark, sent), at)) =
@@ -235,7 +235,7 @@ revised_so (then.Recorded number) m mid w a e it notes (up, (dropped, same)) (in
 revised_so (then.Recorded number) m mid w a e it notes (up, (dropped, same)) (inr (tried, cancelled, drops, at)) =
     answered_off m mid w a it _ dropped notes up (gone m.host mid.host drops) same at
 revised_so (then.GoOn number tried due) m mid w a e it notes (up, same) (inl (waits, host, inl at)) =
-    answered_on m mid w a it (printed number) notes up host same at (λ on. (on.0, ([], lags_none w.wire a.wire on.1)))
+    answered_on m mid w a it (printed mid.book number m.host) notes up host same at (λ on. (on.0, ([], lags_none w.wire a.wire on.1)))
 revised_so (then.GoOn number tried due) m mid w a e it notes (up, same) (inl (waits, host, inr goes)) = answered_on m mid w a it _ notes up host same goes.stage_is (λ on. on)
 revised_so (then.GoOn number tried due) m mid w a e it notes (up, same) (inr (times, cancelled, drops, at)) =
     answered_off m mid w a it _ [] notes up (gone m.host mid.host drops) (lags_none w.wire a.wire same) at

@@ -144,10 +144,10 @@ are_same es e receipts none are =
     subst (λ ns. AllZip (IsReceiptOf (es ++ e ∷ [])) ns receipts) (sym (recorded_same es e none))
     (zip_turn (IsReceiptOf es) (IsReceiptOf (es ++ e ∷ [])) (receipt_of_grows es (e ∷ [])) (recorded es) receipts are)
 
-pub are_add : (es : List Entry) (number : ℕ) (commands : List Command) (receipts : List (List Command)) → AreReceipts es receipts → IsReceiptOf es number commands
-    → AreReceipts (es ++ Recorded number ∷ []) (receipts ++ commands ∷ [])
-are_add es number commands receipts are one =
-    let more = Recorded number ∷ [] in
+pub are_add : (es : List Entry) (number hd : ℕ) (commands : List Command) (receipts : List (List Command)) → AreReceipts es receipts → IsReceiptOf es number commands
+    → AreReceipts (es ++ Recorded number hd ∷ []) (receipts ++ commands ∷ [])
+are_add es number hd commands receipts are one =
+    let more = Recorded number hd ∷ [] in
     subst (λ ns. AllZip (IsReceiptOf (es ++ more)) ns (receipts ++ commands ∷ [])) (sym (recorded_append es more))
     (zip_add (IsReceiptOf (es ++ more)) (recorded es) receipts number commands
     (zip_turn (IsReceiptOf es) (IsReceiptOf (es ++ more)) (receipt_of_grows es more) (recorded es) receipts are)
@@ -159,9 +159,9 @@ are_add es number commands receipts are one =
 pub next_grows : (es : List Entry) (e : Entry) → MayFollow es e → next_free es ≤ next_free (es ++ e ∷ [])
 next_grows es (Queued content) follows = omega (arith, next_after_queued es content)
 next_grows es (Tried number next) follows = omega (arith, follows.1, next_after_tried es number next)
-next_grows es (Recorded number) follows = omega (arith, next_after_recorded es number)
-next_grows es (Raised next) follows = omega (arith, follows, next_after_raised es next)
+next_grows es (Recorded number hd) follows = omega (arith, next_after_recorded es number hd)
+next_grows es (Raised next hd) follows = omega (arith, follows.0, next_after_raised es next hd)
 next_grows es (Cancelled number) follows = omega (arith, next_after_cancelled es number)
 next_grows es (Key key) follows = omega (arith, next_after_key es key)
-next_grows es (Renewed last) follows = omega (arith, next_after_renewed es last)
+next_grows es (Renewed last hd) follows = omega (arith, next_after_renewed es last hd)
 next_grows es (Earlier number key) follows = omega (arith, next_after_earlier es number key)

@@ -27,13 +27,14 @@ use Rattle.escpos_till.specs.declared.entry.Content.{Content}
 use Rattle.escpos_till.specs.declared.entry.Entry.{Entry}
 use Rattle.escpos_till.specs.declared.entry.Entry.TheVariants.{Queued, Tried, Recorded, Raised, Cancelled, Key, Renewed, Earlier}
 use Rattle.escpos_till.specs.declared.tries.Try.{Try}
-use Rattle.escpos_till.specs.Delivers.{FirstWaits, fresh}
-use Rattle.escpos_till.specs.Entries.{IsLedger, MayFollow, Taken, Waits, cancel_of, cancelled, cancel_place_of, contents, earlier, is_open, last_number, next_free, numbered_from, place_of, record_of, recorded, taken}
+use Rattle.escpos_till.specs.Delivers.{FirstWaits}
+use Rattle.escpos_till.specs.Entries.{IsLedger, MayFollow, Taken, Waits, cancel_of, cancelled, cancel_place_of, contents, earlier, heard, is_open, last_number, next_free, numbered_from, place_of, record_of, recorded, taken}
 use Rattle.escpos_till.specs.Machine.{Drops}
 use Rattle.escpos_till.specs.Tries.{HasTry, tries, try_of}
-use Rattle.escpos_till.proofs.EntryLemmas.{earlier_grows, last_grows, last_same, next_after_tried}
+use Rattle.escpos_till.proofs.EntryLemmas.{earlier_grows, heard_grows, last_grows, last_same, next_after_tried}
 use Rattle.escpos_till_model.proofs.Accounts.{ended_there}
 use Rattle.escpos_till_model.proofs.EntryFacts.{next_grows, receipt_of_grows}
+use Rattle.escpos_till_model.proofs.HeardLemmas.{idle_at}
 use Rattle.escpos_till_model.proofs.LinesKept.{LineLaws, Right, down_or_up, same_wire}
 use Rattle.escpos_till_model.specs.Late.{LateAnswers}
 use Rattle.escpos_till_model.specs.Receipts.{IsReceiptOf}
@@ -70,11 +71,11 @@ AreBelow es = (n c : ℕ) → HasTry (tries es) n c → (c < next_free es) × (n
 
 one_below : (es : List Entry) (e : Entry) (n c : ℕ) → MayFollow es e → HasTry (tries (e ∷ [])) n c → (c < next_free (es ++ e ∷ [])) × (n ≤ last_number (es ++ e ∷ []))
 one_below es (Queued content) n c follows has = absurd has
-one_below es (Recorded m) n c follows has = absurd has
-one_below es (Raised next) n c follows has = absurd has
+one_below es (Recorded m hd) n c follows has = absurd has
+one_below es (Raised next hd) n c follows has = absurd has
 one_below es (Cancelled m) n c follows has = absurd has
 one_below es (Key key) n c follows has = absurd has
-one_below es (Renewed last) n c follows has = absurd has
+one_below es (Renewed last hd) n c follows has = absurd has
 one_below es (Earlier k key) n c follows has = absurd has
 one_below es (Tried m next) n c follows (inr none) = absurd none
 one_below es (Tried m next) n c follows (inl (number, closing)) =
@@ -94,6 +95,34 @@ are_below es ledger =
           let grown = last_grows before (e ∷ []) in
           (omega (arith, so.0, more), omega (arith, so.1, grown))
       | inr new ↦ one_below before e n c follows new
+    ]) [] es ledger (λ n c has. absurd has)
+
+-- It is fewer numbers from what is heard than there are ids.
+abbrev pub AreNear : List Entry → Type 0
+AreNear es = (n c : ℕ) → HasTry (tries es) n c → c < heard es + mark_count
+
+one_near : (es : List Entry) (e : Entry) (n c : ℕ) → MayFollow es e → HasTry (tries (e ∷ [])) n c → c < heard es + mark_count
+one_near es (Queued content) n c follows has = absurd has
+one_near es (Recorded m hd) n c follows has = absurd has
+one_near es (Raised next hd) n c follows has = absurd has
+one_near es (Cancelled m) n c follows has = absurd has
+one_near es (Key key) n c follows has = absurd has
+one_near es (Renewed last hd) n c follows has = absurd has
+one_near es (Earlier k key) n c follows has = absurd has
+one_near es (Tried m next) n c follows (inr none) = absurd none
+one_near es (Tried m next) n c follows (inl (number, closing)) =
+    let more = follows.1 in
+    let few = follows.2 in
+    omega (arith, closing, more, few)
+
+pub are_near : (es : List Entry) → IsLedger es → AreNear es
+are_near es ledger =
+    by_entries AreNear
+    (λ before e follows near n c has.
+    let grown = heard_grows before e in
+    elim (has_last before e n c has) [
+      | inl old ↦ let so = near n c old in omega (arith, so, grown)
+      | inr new ↦ let so = one_near before e n c follows new in omega (arith, so, grown)
     ]) [] es ledger (λ n c has. absurd has)
 
 has_more : (xs ys : List Try) (n c : ℕ) → HasTry xs n c → HasTry (xs ++ ys) n c
@@ -179,13 +208,14 @@ late_more es e records l ledger none late =
       promise = λ n c waits has few.
           let has_so = old n c has in
           let within = (are_below es ledger n c has_so).1 in
-          let (receipt, is, promised) = late.promise n c (waits_before es e n within waits) has_so few in
+          let grown = heard_grows es e in
+          let (receipt, is, promised) = late.promise n c (waits_before es e n within waits) has_so (omega (arith, grown, few)) in
           (receipt, receipt_of_grows es (e ∷ []) n receipt is, promised);
     }
 
 -- One that says that the first receipt that waits is tried.
 pub late_tried : (es : List Entry) (m next : ℕ) (records : List (List Command)) (receipt : List Command) (l : LineView) → IsLedger es → MayFollow es (Tried m next)
-    → ((k : ℕ) → Waits es k → m ≤ k) → IsReceiptOf es m receipt → (next - 1 < mark_count → Promised records (closed_by receipt (next - 1)) l)
+    → ((k : ℕ) → Waits es k → m ≤ k) → IsReceiptOf es m receipt → Promised records (closed_by receipt (next - 1)) l
     → LateAnswers es records l → LateAnswers (es ++ Tried m next ∷ []) records l
 late_tried es m next records receipt l ledger follows leads is made late =
     let e = Tried m next in
@@ -199,12 +229,13 @@ late_tried es m next records receipt l ledger follows leads is made late =
       ];
       promise = λ n c waits has few. elim (has_last es e n c has) [
         | inl before ↦
-            let (other, so, promised) = late.promise n c (back n waits) before few in
+            let grown = heard_grows es e in
+            let (other, so, promised) = late.promise n c (back n waits) before (omega (arith, grown, few)) in
             (other, receipt_of_grows es (e ∷ []) n other so, promised)
         | inr (inl (number, closing)) ↦ (
           receipt,
           receipt_of_grows es (e ∷ []) n receipt (subst (λ k. IsReceiptOf es k receipt) number is),
-          subst (λ k. Promised records (closed_by receipt k) l) closing (made (omega (arith, closing, few))),
+          subst (λ k. Promised records (closed_by receipt k) l) closing made,
         )
         | inr (inr none) ↦ absurd none
       ];
@@ -214,17 +245,17 @@ late_tried es m next records receipt l ledger follows leads is made late =
     same_count es m next = last_same es (Tried m next) refl refl
 
 -- One that says that a receipt is recorded, which was tried: no other that waits was.
-pub late_recorded : (es : List Entry) (m c0 : ℕ) (records : List (List Command)) (l : LineView) (others : List (List Command)) (after : LineView) → IsLedger es → Waits es m
-    → HasTry (tries es) m c0 → LateAnswers es records l → LateAnswers (es ++ Recorded m ∷ []) others after
-late_recorded es m c0 records l others after ledger waits_m has_m late =
-    let none : (n c : ℕ) → Waits (es ++ Recorded m ∷ []) n → HasTry (tries (es ++ Recorded m ∷ [])) n c → ⊥ =
-    λ n c waits has. elim (has_last es (Recorded m) n c has) [
+pub late_recorded : (es : List Entry) (m hd c0 : ℕ) (records : List (List Command)) (l : LineView) (others : List (List Command)) (after : LineView) → IsLedger es → Waits es m
+    → HasTry (tries es) m c0 → LateAnswers es records l → LateAnswers (es ++ Recorded m hd ∷ []) others after
+late_recorded es m hd c0 records l others after ledger waits_m has_m late =
+    let none : (n c : ℕ) → Waits (es ++ Recorded m hd ∷ []) n → HasTry (tries (es ++ Recorded m hd ∷ [])) n c → ⊥ =
+    λ n c waits has. elim (has_last es (Recorded m hd) n c has) [
       | inl before ↦
           let within = (are_below es ledger n c before).1 in
-          let waits_so = waits_before es (Recorded m) n within waits in
+          let waits_so = waits_before es (Recorded m hd) n within waits in
           let one = late.first n c waits_so before m waits_m in
           let other = late.first m c0 waits_m has_m n waits_so in
-          ended_there es [] (Recorded m) n (omega (arith, one, other)) waits
+          ended_there es [] (Recorded m hd) n (omega (arith, one, other)) waits
       | inr new ↦ absurd new
     ] in
     record {
@@ -235,7 +266,7 @@ late_recorded es m c0 records l others after ledger waits_m has_m late =
 -- ## The line goes on
 
 pub late_on : LineLaws → (es : List Entry) (records : List (List Command)) (e : Event) (l after : LineView) (n : Note) → IsFitting e → IsSound l.host → Right l → After e l n after
-    → ((number closing : ℕ) → HasTry (tries es) number closing → closing < mark_count → PutsOther e l.host (id_of closing)) → LateAnswers es records l → LateAnswers es records after
+    → ((number closing : ℕ) → HasTry (tries es) number closing → heard es ≤ closing → PutsOther e l.host (id_of closing)) → LateAnswers es records l → LateAnswers es records after
 late_on laws es records e l after n fits sound right happened other late = record {
   first = late.first;
   promise = λ number closing waits has few.
@@ -292,10 +323,10 @@ late_off laws es records l host half late = record {
 }
 
 -- A host with no link, made anew.
-pub late_fresh : (es : List Entry) (records earlier others : List (List Command)) (h : HostView) (w : WireView) (f : ℕ) → IsSound h → h.phase ≡ Down
-    → LateAnswers es records (line_of (with_earlier earlier h) w) → LateAnswers es records (line_of (with_earlier others (fresh f)) w)
-late_fresh es records earlier others h w f sound down late =
-    late_host es records (with_earlier earlier h) (with_earlier others (fresh f)) w (sym (sound.quiet down).1) (sym (sound.quiet down).0) late
+pub late_fresh : (es : List Entry) (records earlier others : List (List Command)) (h : HostView) (w : WireView) (f hd : ℕ) → IsSound h → h.phase ≡ Down
+    → LateAnswers es records (line_of (with_earlier earlier h) w) → LateAnswers es records (line_of (with_earlier others (idle_at f hd)) w)
+late_fresh es records earlier others h w f hd sound down late =
+    late_host es records (with_earlier earlier h) (with_earlier others (idle_at f hd)) w (sym (sound.quiet down).1) (sym (sound.quiet down).0) late
 
 -- A link with nothing on it.
 pub late_idle : LineLaws → (es : List Entry) (records : List (List Command)) (h : HostView) (w : WireView) → h.phase ≡ Down → Right (line_of h w) → LateAnswers es records (line_of h w)
@@ -307,9 +338,9 @@ late_idle laws es records h w down right late = record {
       (receipt, is, laws.promise.idle h w records (closed_by receipt closing) down right.line right.trusted promised);
 }
 
--- Two marks with other numbers.
-pub other_mark : LineLaws → (m n : ℕ) → m < mark_count → n < mark_count → m ≢ n → id_of m ≢ id_of n
-other_mark laws m n few more differ same = differ (laws.one_number m n few more (sym (laws.first_round m few) ∙ same ∙ laws.first_round n more))
+-- Two marks with other numbers, fewer apart than there are ids.
+pub other_mark : LineLaws → (m n : ℕ) → m < n → n < m + mark_count → id_of m ≢ id_of n
+other_mark laws m n less few same = let one = laws.apart m n (omega (arith, less)) few same in omega (arith, one, less)
 
 -- ## Which try it is
 
@@ -324,11 +355,11 @@ IsPlaced n limit low es =
 
 above : (limit : ℕ) (es : List Entry) (e : Entry) (m c : ℕ) → limit ≤ next_free es → MayFollow es e → HasTry (tries (e ∷ [])) m c → limit ≤ c
 above limit es (Queued content) m c within follows has = absurd has
-above limit es (Recorded k) m c within follows has = absurd has
-above limit es (Raised next) m c within follows has = absurd has
+above limit es (Recorded k hd) m c within follows has = absurd has
+above limit es (Raised next hd) m c within follows has = absurd has
 above limit es (Cancelled k) m c within follows has = absurd has
 above limit es (Key key) m c within follows has = absurd has
-above limit es (Renewed last) m c within follows has = absurd has
+above limit es (Renewed last hd) m c within follows has = absurd has
 above limit es (Earlier number key) m c within follows has = absurd has
 above limit es (Tried k next) m c within follows (inr none) = absurd none
 above limit es (Tried k next) m c within follows (inl (number, closing)) = let more = follows.1 in omega (arith, within, more, closing)

@@ -1,5 +1,6 @@
 pub mod EntryFacts
 pub mod Accounts
+pub mod HeardLemmas
 pub mod GoesOn
 pub mod Keeping
 pub mod LinesKept

@@ -1,9 +1,9 @@
 -- A line whose records can be trusted stays one, whatever its host does.
-use Rattle.std.proofs.Common.{ℕ, ◌≡◌, ◌≢◌, ◌⊎◌, ◌<◌, inl, inr, None, List, [], ◌++◌, take, refl, sym, ◌∙◌, ap, subst, append-nil}
+use Rattle.std.proofs.Common.{ℕ, ◌≡◌, ◌≢◌, ◌+◌, ◌⊎◌, ◌<◌, ◌≤◌, inl, inr, None, List, [], ◌++◌, take, refl, sym, ◌∙◌, ap, subst, append-nil}
 use Rattle.std.specs.Prelude.{option_to_list}
 use Rattle.escpos_command.specs.declared.command.Command.{Command}
 use Rattle.escpos_command.specs.CommandTable.{AreCommands}
-use Rattle.escpos_command.specs.Digits.{mark_count, mark_of}
+use Rattle.escpos_command.specs.Digits.{mark_count}
 use Rattle.escpos_receipt.specs.Whole.{Whole}
 use Rattle.escpos_host.specs.Counted.{id_of}
 use Rattle.escpos_host.specs.Earlier.{with_earlier}
@@ -28,8 +28,7 @@ use Rattle.escpos_till_model.specs.World.{Wired}
 pub record LineLaws : Type 0 where
   pub trust : Trusting
   pub promise : Promising
-  pub one_number : (m n : ℕ) → m < mark_count → n < mark_count → mark_of m ≡ mark_of n → m ≡ n
-  pub first_round : (n : ℕ) → n < mark_count → id_of n ≡ mark_of n
+  pub apart : (m n : ℕ) → m ≤ n → n < m + mark_count → id_of m ≡ id_of n → m ≡ n
   pub every : (e : Event) (l after : LineView) (n : Note) → IsSound l.host → IsLine l → After e l n after → IsLine after
   pub fitting : (receipt : List Command) → Whole receipt → AreCommands receipt → IsFitting (event.Submit receipt)
   pub turn : (h after : HostView) (w : WireView) (most consumed : ℕ) (events : List HostEvent) → IsLine (line_of h w) → IsTrusted (line_of h w)

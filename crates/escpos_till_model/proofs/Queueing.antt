@@ -12,7 +12,7 @@ use Rattle.escpos_till.specs.Machine.{MachineView, Queues, taking}
 taking_to : (P : Stage → Type 0) → ((content : Content) → P (stage.Keeping (entry.Queued content) then.Queued)) → ((e : Entry) (content : Content) → P (stage.Keeping e (then.Take content)))
     → (key last : Option (List ℕ)) (next : ℕ) (content : Content) → P (taking key last next content)
 taking_to P receipt first (Some key) last next content = first (entry.Key key) content
-taking_to P receipt first None (Some last) next content = first (entry.Raised next) content
+taking_to P receipt first None (Some last) next content = first (entry.Raised next 0) content
 taking_to P receipt first None None next content = receipt content
 
 -- It tells the number of a receipt that has the key; or it keeps the receipt, or an entry before it.

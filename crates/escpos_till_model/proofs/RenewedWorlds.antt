@@ -1,31 +1,32 @@
 -- A ledger that goes on from an older one, where that ledger's till is off: the line goes on as if its host had recorded nothing.
-use Rattle.std.proofs.Common.{ℕ, ◌≡◌, ◌<◌, ◌⊎◌, inl, inr, None, Some, Option, List, [], ◌∷◌, ◌++◌, refl, sym, ◌∙◌, ap, subst, append_assoc, arith}
+use Rattle.std.proofs.Common.{ℕ, ◌≡◌, ◌≤◌, ◌⊎◌, inl, inr, None, Some, Option, List, [], ◌∷◌, ◌++◌, refl, sym, ◌∙◌, ap, subst, append_assoc, arith}
 use Rattle.std.specs.List.{AllZip}
 use Rattle.escpos_command.specs.declared.command.Command.{Command}
-use Rattle.escpos_command.specs.Digits.{mark_count}
 use Rattle.escpos_paper.specs.declared.item.Item.{Item}
 use Rattle.escpos_paper.specs.Page.{Sheet}
 use Rattle.escpos_paper.specs.Printed.{printed}
-use Rattle.escpos_host.specs.Machine.{InFlight, closed_by}
-use Rattle.escpos_link.specs.Line.{LineView}
+use Rattle.escpos_host.specs.Machine.{HostView, InFlight, closed_by}
+use Rattle.escpos_link.specs.Line.{IsLine, LineView}
 use Rattle.escpos_link.specs.Promised.{Fulfils, GivenUpFor, IsIn, KeepsOn, LiveFor, NewestFor, Promised, PromisedBy, PromisedIn, ServedFor, StandsNext}
 use Rattle.escpos_link.specs.Promising.{Promising}
-use Rattle.escpos_link.specs.Resumed.{resumed, resumed_host}
+use Rattle.escpos_link.specs.Resumed.{resumed_from}
 use Rattle.escpos_link.specs.Stands.{Stands}
-use Rattle.escpos_link.specs.Trusted.{Trusting}
+use Rattle.escpos_link.specs.Trusted.{IsTrusted, Trusting}
 use Rattle.escpos_link.specs.Wire.{WireView, given_up, wire_of}
-use Rattle.escpos_link.proofs.Happening.{resumed_kept}
+use Rattle.escpos_link.proofs.Keeping.{off_link_kept}
 use Rattle.escpos_till.specs.declared.entry.Content.{Content}
 use Rattle.escpos_till.specs.declared.entry.Entry.{Entry}
 use Rattle.escpos_till.specs.declared.machine.TillNote.{TillNote}
 use Rattle.escpos_till.specs.declared.machine.TillNote.TheVariants as note
-use Rattle.escpos_till.specs.Entries.{Taken, Waits, cancel_place_of, is_open, last_number, next_free, place_of, recorded, taken, waiting}
+use Rattle.escpos_till.specs.Entries.{Taken, Waits, cancel_place_of, heard, is_open, last_number, next_free, place_of, recorded, taken, waiting}
 use Rattle.escpos_till.specs.Renewing.{Renews}
 use Rattle.escpos_till.specs.Tries.{HasTry, tries}
-use Rattle.escpos_till_model.specs.Late.{LateAnswers}
+use Rattle.escpos_till_model.specs.Late.{IsHeardBy, LateAnswers}
 use Rattle.escpos_till_model.specs.Receipts.{Among, AreReceipts, IsReceiptOf, IsTaken}
 use Rattle.escpos_till_model.specs.World.{Begins, IsSo, World}
 use Rattle.escpos_till_model.proofs.EntryFacts.{among_filtered, filter_keeps}
+use Rattle.escpos_till_model.proofs.HeardLemmas.{MayKnow, may_know}
+use Rattle.escpos_till_model.proofs.Keeping.{anew}
 use Rattle.escpos_till_model.proofs.LinesKept.{none_given_up}
 use Rattle.std.specs.Prelude.{Bool, true, ◌&&◌, is_none}
 
@@ -106,35 +107,50 @@ receipt_on old new number commands renews waits is =
 
 -- ## The world
 
-late_on : Promising → (old new : List Entry) (records : List (List Command)) (l : LineView) (f : ℕ) → Renews old new → LateAnswers old records l → LateAnswers new [] (resumed l f 0)
-late_on promise old new records l f renews late = record {
+late_on : Promising → (old new : List Entry) (records : List (List Command)) (l : LineView) (f hd : ℕ) → Renews old new → LateAnswers old records l → LateAnswers new [] (resumed_from l f 0 hd)
+late_on promise old new records l f hd renews late = record {
   first = λ n c waits has k waits_too.
       let so = (renews.waits n).0 waits in
       late.first n c so ((renews.tries n c so).0 has) k ((renews.waits k).0 waits_too);
-  promise = λ n c waits has few.
+  promise = λ n c waits has past.
       let so = (renews.waits n).0 waits in
-      let (receipt, is, promised) = late.promise n c so ((renews.tries n c so).0 has) few in
+      let (receipt, is, promised) = late.promise n c so ((renews.tries n c so).0 has) (omega (arith, past, renews.heard)) in
       let p : InFlight = closed_by receipt c in
-      (receipt, receipt_on old new n receipt renews so is, promised_alone (resumed l f 0) records p (promise.off l (resumed_host l.host f 0) records p refl promised));
+      (receipt, receipt_on old new n receipt renews so is, promised_alone (resumed_from l f 0 hd) records p (promise.off l (anew l.host f 0 hd) records p refl promised));
 }
 
 pub queued_on : (old new : List Entry) (number : ℕ) → Renews old new → IsSo old (note.Queued number) → IsSo new (note.Queued number)
 queued_on old new number renews (some, within) = (some, omega (arith, within, renews.last))
+
+heard_same_ledger : (old new : List Entry) (h : HostView) → heard new ≡ heard old → IsHeardBy old h → IsHeardBy new h
+heard_same_ledger old new h same (inl known) = inl (omega (arith, same, known))
+heard_same_ledger old new h same (inr (answered, past)) = inr (answered, omega (arith, same, past))
+
+resumed_right : Trusting → (l : LineView) (f hd : ℕ) → l.host.next ≤ f → MayKnow l.host f hd → IsLine l → IsTrusted l → IsLine (resumed_from l f 0 hd) × IsTrusted (resumed_from l f 0 hd)
+resumed_right trust l f hd within (inl known) line trusted = (off_link_kept l (anew l.host f 0 hd) line refl refl, (trust.resumes_from l f 0 hd within known trusted).0)
+resumed_right trust l f hd within (inr (answered, most)) line trusted = (off_link_kept l (anew l.host f 0 hd) line refl refl, (trust.resumes_answered l f 0 hd answered most trusted).0)
 
 pub renewed_world : Trusting → Promising → (w : World) (new : List Entry) (told : List TillNote) → Begins w → Renews w.kept new → recorded new ≡ [] → ((n : TillNote) → Among n told → IsSo new n)
     → Begins (record { machine = None; kept = new; wire = w.wire; told = told })
 renewed_world trust promise w new told b renews none so =
     let f : ℕ = next_free new in
     let l : LineView = b.line in
+    let hd : ℕ = heard new in
+    let within : l.host.next ≤ f = omega (arith, b.next, renews.next) in
+    let most : hd ≤ f = omega (arith, b.most, renews.heard, renews.next) in
+    let known = heard_same_ledger w.kept new l.host renews.heard b.knows in
+    let right = resumed_right trust l f hd within (may_know new l.host f known most) b.is_line b.trusted in
     record {
       off = refl;
       ledger = renews.ledger;
-      line = resumed l f 0;
-      is_line = resumed_kept l f 0 b.is_line;
-      trusted = (trust.resumes l f 0 (omega (arith, b.next, renews.next)) b.trusted).0;
+      line = resumed_from l f 0 hd;
+      is_line = right.0;
+      trusted = right.1;
       receipts = subst (λ ns. AllZip (IsReceiptOf new) ns []) (sym none) tt;
-      late = late_on promise w.kept new l.host.records l f renews b.late;
+      late = late_on promise w.kept new l.host.records l f hd renews b.late;
       next = omega arith;
-      wire_is = b.wire_is ∙ sym (none_given_up (resumed_host l.host f 0) (wire_of (resumed l f 0)) refl (resumed_kept l f 0 b.is_line));
+      knows = inl (omega arith);
+      most = most;
+      wire_is = b.wire_is ∙ sym (none_given_up (anew l.host f 0 hd) (wire_of (resumed_from l f 0 hd)) refl right.0);
       told = so;
     }

@@ -34,7 +34,7 @@ use Rattle.escpos_till.specs.Machine.{IsLinked as Linked}
 use Rattle.escpos_till_model.specs.World.{Calls, GoesOnWire, Hears, Idles, Runs, Stores, Tells, Wired, World, running, with_entry, with_wire}
 use Rattle.escpos_till_model.specs.declared.event.Happening.TheVariants as event
 use Rattle.std.proofs.lemmas.Option.{same_Some}
-use Rattle.escpos_till_model.proofs.WorldKeeps.{refused_host}
+use Rattle.escpos_till_model.proofs.DrivenDeeds.{refused_down}
 use Rattle.escpos_till_model.proofs.WorldHears.{heard_one}
 use Rattle.escpos_till_model.proofs.LinesKept.{down_or_up}
 use Rattle.escpos_till_model.proofs.WorldCalls.{parts}
@@ -117,7 +117,7 @@ up_by kept hand h (stage.Keeping e (then.Send due)) holds linked = absurd linked
 up_by kept hand h (stage.Keeping e (then.Recorded k)) (follows, (held, hand_is, same, is, more, up)) linked = up
 up_by kept hand h (stage.Keeping e (then.GoOn k tried due)) (follows, ((held, hand_is, same, is, more, up), send)) linked = up
 up_by kept hand h (stage.Keeping e (then.SendNext k due)) (follows, (held, hand_is, all, send, so)) linked = λ down. let bad : Open [] ≡ Down = sym send.link ∙ down in cc
-up_by kept hand h (stage.Talking talk) (held, hand_is, number, receipt, follows, records, up, reserved, news) linked = up
+up_by kept hand h (stage.Talking talk) (held, hand_is, number, receipt, follows, records, up, reserved, news, known) linked = up
 up_by kept hand h (stage.HangingUp n) holds linked = absurd linked
 up_by kept hand h (stage.Telling n) holds linked = absurd linked
 up_by kept hand h stage.Failed holds linked = absurd linked
@@ -130,7 +130,7 @@ down_by kept hand h stage.AtRest k none linked = none_down kept hand h k none
 down_by kept hand h (stage.Connecting due) k (none, send) linked = none_down kept hand h k none
 down_by kept hand h (stage.Keeping e then.Queued) k (follows, (none, content, is)) linked = none_down kept hand h k none
 down_by kept hand h (stage.Keeping e (then.Take content)) k (follows, (none, suits)) linked = none_down kept hand h k none
-down_by kept hand h (stage.Keeping e then.Raised) k (follows, (none, first, is)) linked = none_down kept hand h k none
+down_by kept hand h (stage.Keeping e then.Raised) k (follows, (none, first, hd, is)) linked = none_down kept hand h k none
 down_by kept hand h (stage.Keeping e (then.Cancelled number tried)) k (follows, (none, is, times)) linked = none_down kept hand h k none
 down_by kept hand h (stage.Keeping e (then.Send due)) k (follows, (none, send, is)) linked = none_down kept hand h k none
 down_by kept hand h (stage.Keeping e (then.Recorded number)) k holds linked = absurd (linked tt)
@@ -259,27 +259,27 @@ keeps_other w m after wire e next known was is other kept sound gone on stays =
     }
 
 by_next : (kept : List Entry) (hand : Option Hand) (h : HostView) (m after : MachineView) (e : Entry) (next : Then) (number limit : ℕ) → (Linked (stage.Keeping e next) → ⊥) → e ≡ entry.Tried number limit
-    → IsToKeep kept hand h e next → Follows next m.host m.book.next after.book after.host after.stage → (due : Due) × Opens due m.book.next after.host after.stage
+    → IsToKeep kept hand h e next → Follows next m.host m.book.next after.book after.host after.stage → (due : Due) × Opens due m.book.next after.book.heard after.host after.stage
 by_next kept hand h m after e then.Queued number limit free tried (none, content, is) so = absurd (let bad : entry.Queued content ≡ entry.Tried number limit = sym is ∙ tried in cc)
 by_next kept hand h m after e (then.Take content) number limit free tried (none, suits) so = absurd (first_no_try e content number limit suits tried)
-by_next kept hand h m after e then.Raised number limit free tried (none, first, is) so = absurd (let bad : entry.Raised first ≡ entry.Tried number limit = sym is ∙ tried in cc)
+by_next kept hand h m after e then.Raised number limit free tried (none, first, hd, is) so = absurd (let bad : entry.Raised first hd ≡ entry.Tried number limit = sym is ∙ tried in cc)
 by_next kept hand h m after e (then.Cancelled n often) number limit free tried (none, is, times) so = absurd (let bad : entry.Cancelled n ≡ entry.Tried number limit = sym is ∙ tried in cc)
 by_next kept hand h m after e (then.Send due) number limit free tried holds so = (due, so)
 by_next kept hand h m after e (then.Recorded n) number limit free tried holds so = absurd (free tt)
 by_next kept hand h m after e (then.GoOn n this due) number limit free tried holds so = absurd (free tt)
 by_next kept hand h m after e (then.SendNext n due) number limit free tried holds so = absurd (free tt)
 
-opened_up : (due : Due) (first : ℕ) (after : MachineView) (talk : Talk) → after.stage ≡ stage.Talking talk → Opens due first after.host after.stage → after.host.phase ≢ Down
-opened_up due first after talk talks (inl (host, now)) = λ gone. let bad : Opening first ≡ Down = ap (λ v. v.phase) (sym host) ∙ gone in cc
-opened_up due first after talk talks (inr (why, refuses, now)) = absurd (let bad : stage.Talking talk ≡ stage.HangingUp _ = sym talks ∙ now in cc)
+opened_up : (due : Due) (first heard : ℕ) (after : MachineView) (talk : Talk) → after.stage ≡ stage.Talking talk → Opens due first heard after.host after.stage → after.host.phase ≢ Down
+opened_up due first heard after talk talks (inl (host, now)) = λ gone. let bad : Opening first ≡ Down = ap (λ v. v.phase) (sym host) ∙ gone in cc
+opened_up due first heard after talk talks (inr (why, refuses, now)) = absurd (let bad : stage.Talking talk ≡ stage.HangingUp _ = sym talks ∙ now in cc)
 
-opened_down : (due : Due) (first : ℕ) (after : MachineView) → ((talk : Talk) → after.stage ≢ stage.Talking talk) → Opens due first after.host after.stage → after.host.phase ≡ Down
-opened_down due first after silent (inl (host, now)) = absurd (silent _ now)
-opened_down due first after silent (inr (why, refuses, now)) = let (g, host, from, to) = refused_host why first _ after.host refuses in ap (λ v. v.phase) host
+opened_down : (due : Due) (first heard : ℕ) (after : MachineView) → ((talk : Talk) → after.stage ≢ stage.Talking talk) → Opens due first heard after.host after.stage → after.host.phase ≡ Down
+opened_down due first heard after silent (inl (host, now)) = absurd (silent _ now)
+opened_down due first heard after silent (inr (why, refuses, now)) = refused_down why first heard _ after.host refuses
 
 -- What follows a try: the host has put its opening marks out, or couldn't.
 pub tried_follows : (w : World) (m after : MachineView) (e : Entry) (next : Then) (number limit : ℕ) → IsWorld w → w.machine ≡ Some m → m.stage ≡ stage.Keeping e next
-    → (Linked m.stage → ⊥) → e ≡ entry.Tried number limit → Kept m.stage m after → (m.host.phase ≡ Down) × ((due : Due) × Opens due m.book.next after.host after.stage)
+    → (Linked m.stage → ⊥) → e ≡ entry.Tried number limit → Kept m.stage m after → (m.host.phase ≡ Down) × ((due : Due) × Opens due m.book.next after.book.heard after.host after.stage)
 tried_follows w m after e next number limit known was is free tried kept =
     let p = parts w m was known in
     let (notes, so) = subst (λ s. Kept s m after) is kept in
@@ -290,7 +290,7 @@ pub tried_up : (w : World) (m after : MachineView) (e : Entry) (next : Then) (nu
     → Stores (λ x y. Kept x.stage x y) with_entry w (running after (w.kept ++ e ∷ []) (with_link w.wire) w.told)
 tried_up w m after e next number limit known was is free tried kept sound talk talks =
     let (down, (due, opens)) = tried_follows w m after e next number limit known was is free tried kept in
-    let up : after.host.phase ≢ Down = opened_up due m.book.next after talk talks opens in
+    let up : after.host.phase ≢ Down = opened_up due m.book.next after.book.heard after talk talks opens in
     record {
       entry = e;
       next = next;
@@ -312,7 +312,7 @@ pub tried_idle : (w : World) (m after : MachineView) (e : Entry) (next : Then) (
     → Runs w (event.Idle ∷ event.Keep ∷ []) (running after (w.kept ++ e ∷ []) (given_up (with_link w.wire)) w.told)
 tried_idle w m after e next number limit known was is free tried kept sound silent =
     let (down, (due, opens)) = tried_follows w m after e next number limit known was is free tried kept in
-    let none : after.host.phase ≡ Down = opened_down due m.book.next after silent opens in
+    let none : after.host.phase ≡ Down = opened_down due m.book.next after.book.heard after silent opens in
     let middle : World = with_wire w (given_up (with_link w.wire)) in
     let last : World = running after (w.kept ++ e ∷ []) (given_up (with_link w.wire)) w.told in
     let there : (x : MachineView) → w.machine ≡ Some x → x.host.phase ≡ Down = λ x same. let one : m ≡ x = same_Some m x (sym was ∙ same) in ap (λ v. v.host.phase) (sym one) ∙ down in
@@ -442,7 +442,7 @@ left_wire stop.Memory host other w after k printer is = ap (λ l. line_of host (
 pub fed_fewer : (w : World) (most : ℕ) (refused : Refused) (wire : WireView) → IsRefusedOnWire (line.Deliver most) w.wire refused wire
     → (fewer : ℕ) × (fewer < most) × GoesOnWire (line.Deliver fewer) w (with_wire w wire)
 fed_fewer w most refused wire is =
-    let other : HostView = fresh 0 in
+    let other : HostView = fresh 0 0 in
     let (fewer, n, less, happened, wanted) = (is other).line in
     let (fed, printer, note, feeds, memory, same) = happened in (
       fewer,

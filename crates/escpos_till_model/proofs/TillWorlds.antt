@@ -1,5 +1,5 @@
 -- What happens in a world that is the view of what a till is made of, one after another, from a new till on.
-use Rattle.std.proofs.Common.{ℕ, ◌≡◌, ◌≢◌, ◌⊎◌, inl, inr, Option, Some, None, List, [], ◌∷◌, ◌++◌, length, take, refl, sym, ◌∙◌, ap, subst, append-nil, append_assoc, arith}
+use Rattle.std.proofs.Common.{ℕ, ◌≡◌, ◌≤◌, ◌≢◌, ◌⊎◌, inl, inr, Option, Some, None, List, [], ◌∷◌, ◌++◌, length, take, refl, sym, ◌∙◌, ap, subst, append-nil, append_assoc, arith}
 use Rattle.escpos_command.specs.declared.command.Command.{Command}
 use Rattle.escpos_host.specs.declared.send.SendFault.{SendFault}
 use Rattle.escpos_host.specs.Machine.{Down, IsSound}
@@ -40,9 +40,9 @@ use Rattle.std.proofs.Math.Nat.{min-le_left, min-le_right}
 use Rattle.std.proofs.lemmas.List.{length-take-le}
 use Rattle.escpos_host.specs.declared.send.SendFault.TheVariants as fault
 use Rattle.escpos_link.specs.Line.{IsLine}
-use Rattle.escpos_till.specs.Entries.{IsLedger}
+use Rattle.escpos_till.specs.Entries.{heard, IsLedger, next_free}
 use Rattle.escpos_till.proofs.EntryLemmas.{empty_ledger}
-use Rattle.escpos_till_model.specs.Late.{LateAnswers}
+use Rattle.escpos_till_model.specs.Late.{IsHeardBy, LateAnswers}
 use Rattle.escpos_till_model.specs.Receipts.{Among, AreReceipts, Extends}
 use Rattle.escpos_till_model.proofs.EntryFacts.{among_nothing}
 use Rattle.escpos_till_model.proofs.Worlds.{entries_last, entries_stay, more_entries, same_entries}
@@ -221,7 +221,7 @@ fed_in w v most refused wire view is =
 
 -- An answer that can't go on its way leaves all as it was.
 pub handed_in : (w v : World) (refused : Refused) (wire : WireView) → v ≡ w → IsRefusedOnWire line.HandOver v.wire refused wire → with_wire v wire ≡ w
-handed_in w v refused wire view is = ap (λ l. with_wire v (wire_of l)) (is (fresh 0)).line ∙ view
+handed_in w v refused wire view is = ap (λ l. with_wire v (wire_of l)) (is (fresh 0 0)).line ∙ view
 
 pub crash_by : (b : Bool) (w v : World) (wire : WireView) → v ≡ w → IsWorld w → (IsTrue b → (m : MachineView) × (w.machine ≡ Some m) × Linked m.stage)
     → (¬ IsTrue b → (m : MachineView) → w.machine ≡ Some m → Linked m.stage → ⊥) → (IsTrue b → wire ≡ given_up v.wire) → (¬ IsTrue b → wire ≡ v.wire)
@@ -326,17 +326,19 @@ all_came events left w now none s = subst (λ es. Ran w es now) (sym (s.events_a
 
 -- ## A new till
 
-pub new_begins : (w : World) → w.machine ≡ None → w.kept ≡ [] → w.told ≡ [] → IsLine (line_of (fresh 0) w.wire) → IsTrusted (line_of (fresh 0) w.wire) → Begins w
+pub new_begins : (w : World) → w.machine ≡ None → w.kept ≡ [] → w.told ≡ [] → IsLine (line_of (fresh 0 0) w.wire) → IsTrusted (line_of (fresh 0 0) w.wire) → Begins w
 new_begins w off kept notes is_line trusted = record {
   off = off;
   ledger = subst IsLedger (sym kept) empty_ledger;
-  line = line_of (fresh 0) w.wire;
+  line = line_of (fresh 0 0) w.wire;
   is_line = is_line;
   trusted = trusted;
   receipts = subst (λ es. AreReceipts es []) (sym kept) tt;
-  late = subst (λ es. LateAnswers es [] (line_of (fresh 0) w.wire)) (sym kept)
+  late = subst (λ es. LateAnswers es [] (line_of (fresh 0 0) w.wire)) (sym kept)
       (record { first = λ number closing waits has. absurd has; promise = λ number closing waits has. absurd has });
   next = omega arith;
-  wire_is = sym (none_given_up (fresh 0) w.wire refl is_line);
+  knows = subst (λ es. IsHeardBy es (fresh 0 0)) (sym kept) (inl (omega arith));
+  most = subst (λ es. heard es ≤ next_free es) (sym kept) (omega arith);
+  wire_is = sym (none_given_up (fresh 0 0) w.wire refl is_line);
   told = λ n among. absurd (among_nothing n (subst (λ ns. Among n ns) notes among));
 }

@@ -24,7 +24,7 @@ on_wire p ended live coming = record { printer = p; ended = ended; live = live; 
 
 -- The wire after a change of the line, which has some host.
 abbrev wire_by : (LineView → LineView) → WireView → WireView
-wire_by change w = wire_of (change (line_of (fresh 0) w))
+wire_by change w = wire_of (change (line_of (fresh 0 0) w))
 
 -- ## Where the host's end has been given up
 
@@ -69,7 +69,7 @@ handed_given_up handed.None = handed.None
 handed_given_up handed.Lost = handed.Lost
 handed_given_up handed.On = handed.Lost
 
-hands_given_up : (what : Handed) (h : HostView) (w after : WireView) → HandsOver (line_of (fresh 0) w) what (line_of (fresh 0) after)
+hands_given_up : (what : Handed) (h : HostView) (w after : WireView) → HandsOver (line_of (fresh 0 0) w) what (line_of (fresh 0 0) after)
     → HandsOver (line_of h (given_up w)) (handed_given_up what) (line_of h (given_up after))
 hands_given_up handed.None h w after (inl none, is) = (inl none, ap (λ l. line_of h (given_up (wire_of l))) is)
 hands_given_up handed.None h w after (inr (ended, live), is) =
@@ -82,7 +82,7 @@ hands_given_up handed.On h w after (a, answers, waiting, none, live, is) =
 pub event_given_up : (e : Event) (w after : WireView) (effect : Note) → is_printer_event e ≡ true → AfterOnWire e w effect after
     → (other : Note) × AfterOnWire e (given_up w) other (given_up after)
 event_given_up (line.Deliver most) w after effect is happened =
-    let (fed, new, told, feeds, well, same) = happened (fresh 0) in (
+    let (fed, new, told, feeds, well, same) = happened (fresh 0 0) in (
       note.Fed fed,
       λ h. (
         fed,
@@ -94,15 +94,15 @@ event_given_up (line.Deliver most) w after effect is happened =
       ),
     )
 event_given_up line.HandOver w after effect is happened =
-    let (what, told, hands) = happened (fresh 0) in
+    let (what, told, hands) = happened (fresh 0 0) in
     (note.Handed (handed_given_up what), λ h. (handed_given_up what, refl, hands_given_up what h w after hands))
 event_given_up line.PrinterLeaves w after effect is happened =
-    (note.Done, λ h. (refl, ap (λ l. line_of h (given_up (wire_of l))) (happened (fresh 0)).1 ∙ sym (left_given_up h w.printer w.ended w.live w.coming)))
+    (note.Done, λ h. (refl, ap (λ l. line_of h (given_up (wire_of l))) (happened (fresh 0 0)).1 ∙ sym (left_given_up h w.printer w.ended w.live w.coming)))
 event_given_up line.PrinterRestart w after effect is happened =
-    let (new, told, restarted, same) = happened (fresh 0) in
+    let (new, told, restarted, same) = happened (fresh 0 0) in
     (note.Done, λ h. (new, refl, restarted, ap (λ l. line_of h (given_up (wire_of l))) same ∙ sym (left_given_up h new w.ended w.live w.coming)))
 event_given_up (line.SetCondition condition) w after effect is happened =
-    (note.Done, λ h. (refl, ap (λ l. line_of h (given_up (wire_of l))) (happened (fresh 0)).1))
+    (note.Done, λ h. (refl, ap (λ l. line_of h (given_up (wire_of l))) (happened (fresh 0 0)).1))
 event_given_up line.LinkUp w after effect is happened = absurd (let bad : false ≡ true = is in cc)
 event_given_up line.LinkUpReporting w after effect is happened = absurd (let bad : false ≡ true = is in cc)
 event_given_up line.Nudge w after effect is happened = absurd (let bad : false ≡ true = is in cc)
@@ -133,7 +133,7 @@ stopped_with_more stop.Offline bytes h w new count = refl
 stopped_with_more stop.Memory bytes h w new count = refl
 stopped_with_more (stop.Fault at why) bytes h w new count = refl
 
-hands_with_more : (what : Handed) (bytes : List ℕ) (h : HostView) (w after : WireView) → HandsOver (line_of (fresh 0) w) what (line_of (fresh 0) after)
+hands_with_more : (what : Handed) (bytes : List ℕ) (h : HostView) (w after : WireView) → HandsOver (line_of (fresh 0 0) w) what (line_of (fresh 0 0) after)
     → HandsOver (line_of h (with_more bytes w)) what (line_of h (with_more bytes after))
 hands_with_more handed.None bytes h w after (none, is) = (none, ap (λ l. line_of h (with_more bytes (wire_of l))) is)
 hands_with_more handed.Lost bytes h w after (a, answers, waiting, some, is) = (a, answers, waiting, some, ap (λ l. line_of h (with_more bytes (wire_of l))) is)
@@ -150,17 +150,17 @@ hands_with_more handed.On bytes h w after (a, answers, waiting, none, live, is) 
 pub event_with_more : (e : Event) (bytes : List ℕ) (w after : WireView) (effect : Note) → is_printer_event e ≡ true → AfterOnWire e w effect after
     → (other : Note) × AfterOnWire e (with_more bytes w) other (with_more bytes after)
 event_with_more (line.Deliver most) bytes w after effect is happened =
-    let (fed, new, told, feeds, well, same) = happened (fresh 0) in
+    let (fed, new, told, feeds, well, same) = happened (fresh 0 0) in
     (note.Fed fed, λ h. (fed, new, refl, feeds, well, ap (λ l. line_of h (with_more bytes (wire_of l))) same ∙ sym (stopped_with_more fed.stop bytes h w new fed.consumed)))
 event_with_more line.HandOver bytes w after effect is happened =
-    let (what, told, hands) = happened (fresh 0) in
+    let (what, told, hands) = happened (fresh 0 0) in
     (note.Handed what, λ h. (what, refl, hands_with_more what bytes h w after hands))
-event_with_more line.PrinterLeaves bytes w after effect is happened = (note.Done, λ h. (refl, ap (λ l. line_of h (with_more bytes (wire_of l))) (happened (fresh 0)).1))
+event_with_more line.PrinterLeaves bytes w after effect is happened = (note.Done, λ h. (refl, ap (λ l. line_of h (with_more bytes (wire_of l))) (happened (fresh 0 0)).1))
 event_with_more line.PrinterRestart bytes w after effect is happened =
-    let (new, told, restarted, same) = happened (fresh 0) in
+    let (new, told, restarted, same) = happened (fresh 0 0) in
     (note.Done, λ h. (new, refl, restarted, ap (λ l. line_of h (with_more bytes (wire_of l))) same))
 event_with_more (line.SetCondition condition) bytes w after effect is happened =
-    (note.Done, λ h. (refl, ap (λ l. line_of h (with_more bytes (wire_of l))) (happened (fresh 0)).1))
+    (note.Done, λ h. (refl, ap (λ l. line_of h (with_more bytes (wire_of l))) (happened (fresh 0 0)).1))
 event_with_more line.LinkUp bytes w after effect is happened = absurd (let bad : false ≡ true = is in cc)
 event_with_more line.LinkUpReporting bytes w after effect is happened = absurd (let bad : false ≡ true = is in cc)
 event_with_more line.Nudge bytes w after effect is happened = absurd (let bad : false ≡ true = is in cc)

@@ -44,7 +44,7 @@ fed_so most w after (Err f) happened refused =
 -- It handed an answer over, or kept it.
 pub handed_so : (w after : WireView) (r : Result Note Refused) → IfOk r (λ n. AfterOnWire line.HandOver w n after) → IfErr r (λ refused. IsRefusedOnWire line.HandOver w refused after) → GoesOn w after
 handed_so w after (Ok n) happened refused = one_event line.HandOver w after n refl happened
-handed_so w after (Err f) happened refused = ([], ap wire_of (refused (fresh 0)).line)
+handed_so w after (Err f) happened refused = ([], ap wire_of (refused (fresh 0 0)).line)
 
 -- ## Where there is no live link, none comes at the printer's end
 
@@ -63,23 +63,23 @@ stopped_none stop.Offline l none = none
 stopped_none stop.Memory l none = none
 stopped_none (stop.Fault at why) l none = left_none l.ended l.live none
 
-handed_none : (what : Handed) (w after : WireView) → HandsOver (line_of (fresh 0) w) what (line_of (fresh 0) after) → w.live ≡ None → after.live ≡ None
+handed_none : (what : Handed) (w after : WireView) → HandsOver (line_of (fresh 0 0) w) what (line_of (fresh 0 0) after) → w.live ≡ None → after.live ≡ None
 handed_none handed.None w after (why, is) none = ap (λ l. l.live) is ∙ none
 handed_none handed.Lost w after (a, answers, waiting, some, is) none = ap (λ l. l.live) is ∙ none
 handed_none handed.On w after (a, answers, waiting, ended, live, is) none = ap (λ l. l.live) is ∙ none
 
 event_none : (e : Event) (w after : WireView) (effect : Note) → is_printer_event e ≡ true → AfterOnWire e w effect after → w.live ≡ None → after.live ≡ None
 event_none (line.Deliver most) w after effect is happened none =
-    let (fed, new, told, feeds, well, same) = happened (fresh 0) in
-    ap (λ l. l.live) same ∙ stopped_none fed.stop (delivered (line_of (fresh 0) w) fed.consumed new) (fed_none w.ended w.live fed.consumed none)
+    let (fed, new, told, feeds, well, same) = happened (fresh 0 0) in
+    ap (λ l. l.live) same ∙ stopped_none fed.stop (delivered (line_of (fresh 0 0) w) fed.consumed new) (fed_none w.ended w.live fed.consumed none)
 event_none line.HandOver w after effect is happened none =
-    let (what, told, hands) = happened (fresh 0) in
+    let (what, told, hands) = happened (fresh 0 0) in
     handed_none what w after hands none
-event_none line.PrinterLeaves w after effect is happened none = ap (λ l. l.live) (happened (fresh 0)).1 ∙ left_none w.ended w.live none
+event_none line.PrinterLeaves w after effect is happened none = ap (λ l. l.live) (happened (fresh 0 0)).1 ∙ left_none w.ended w.live none
 event_none line.PrinterRestart w after effect is happened none =
-    let (new, told, restarted, same) = happened (fresh 0) in
+    let (new, told, restarted, same) = happened (fresh 0 0) in
     ap (λ l. l.live) same ∙ left_none w.ended w.live none
-event_none (line.SetCondition condition) w after effect is happened none = ap (λ l. l.live) (happened (fresh 0)).1 ∙ none
+event_none (line.SetCondition condition) w after effect is happened none = ap (λ l. l.live) (happened (fresh 0 0)).1 ∙ none
 event_none line.LinkUp w after effect is happened none = absurd (let bad : false ≡ true = is in cc)
 event_none line.LinkUpReporting w after effect is happened none = absurd (let bad : false ≡ true = is in cc)
 event_none line.Nudge w after effect is happened none = absurd (let bad : false ≡ true = is in cc)

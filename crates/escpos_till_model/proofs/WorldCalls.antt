@@ -5,14 +5,14 @@ use Rattle.std.proofs.Math.Nat.{le-max_right}
 use Rattle.escpos_host.specs.declared.send.SendFault.{SendFault}
 use Rattle.escpos_command.specs.declared.command.Command.{Command}
 use Rattle.escpos_host.specs.Earlier.{with_earlier}
-use Rattle.escpos_host.specs.Machine.{Down, HostView, IsSound, Opening}
+use Rattle.escpos_host.specs.Machine.{Down, HostView, IsSound, Opening, limit_from}
 use Rattle.escpos_link.specs.Wire.{WireView, line_of}
 use Rattle.escpos_till.specs.declared.entry.Content.{Content}
 use Rattle.escpos_till.specs.declared.entry.Entry.{Entry}
 use Rattle.escpos_till.specs.declared.machine.Stage.{Stage}
 use Rattle.escpos_till.specs.declared.machine.Stage.TheVariants as stage
 use Rattle.escpos_till.specs.Book.{IsBookOf}
-use Rattle.escpos_till.specs.Entries.{Taken, Waits, cancel_place_of, contents, earlier, is_open, next_free, numbered_from, place_of, taken, waiting}
+use Rattle.escpos_till.specs.Entries.{MayFollow, Taken, Waits, cancel_place_of, contents, earlier, heard, is_open, next_free, numbered_from, place_of, taken, waiting}
 use Rattle.escpos_till.specs.declared.book.Book.{Book}
 use Rattle.escpos_till.specs.declared.entry.Entry.TheVariants as entry
 use Rattle.escpos_till.specs.declared.machine.Due.{Due}
@@ -24,7 +24,7 @@ use Rattle.escpos_till.specs.Copy.{copy_line, sent_of}
 use Rattle.escpos_till.specs.Delivers.{marks_taken}
 use Rattle.escpos_receipt.specs.Whole.{Whole}
 use Rattle.escpos_till.specs.Delivers.{Due as IsDue, FirstWaits}
-use Rattle.escpos_till.specs.Machine.{Cancels, Delivers, Drops, Ended, IsKnown, IsNew, IsNext, MachineView, Queues, Raises, SameEntries, after_note, at, connected, ended_by_pause, hung_up as machine_hung_up, lost, not_connected, taking, told, after_news}
+use Rattle.escpos_till.specs.Machine.{Cancels, Delivers, Drops, Ended, IsKnown, IsNew, IsNext, IsRaisedTo, MachineView, Queues, Raises, SameEntries, after_note, at, connected, ended_by_pause, hung_up as machine_hung_up, lost, not_connected, taking, told, after_news}
 use Rattle.escpos_till.proofs.KeyLemmas.{key_taken}
 use Rattle.escpos_till_model.proofs.EntryFacts.{among_cons, among_filtered, among_last, among_nothing, first_among, first_is_taken}
 use Rattle.escpos_till_model.proofs.Keeping.{gone_keeps}
@@ -127,7 +127,7 @@ taking_holds kept hand h b key content book none new = by key b.last_key new
   where
     by : (key last : Option (List ℕ)) → IsNew b key → Holds kept hand h (taking key last b.next content)
     by (Some key) last new = (new kept book, (none, tt))
-    by None (Some last) new = (omega (arith, book.next), (none, tt))
+    by None (Some last) new = ((omega (arith, book.next), inl refl), (none, tt))
     by None None new = (tt, (none, content, refl))
 
 known_so : (kept : List Entry) (b : Book) (key : Option (List ℕ)) (number : ℕ) → IsBookOf b kept → IsKnown b key number → IsSo kept (note_kind.Queued number)
@@ -150,16 +150,24 @@ queued w new content key known moves =
     (λ live. moves.goes.book w.kept book)
     (queues_holds w.kept p.hand (with_earlier p.earlier moves.m.host) moves.m content key moves.after book none moves.goes)))
 
+raised_follows : (kept : List Entry) (b : Book) (first : ℕ) (e : Entry) → IsBookOf b kept → next_free kept ≤ first → IsRaisedTo b first e
+    → (hd : ℕ) × (e ≡ entry.Raised first hd) × MayFollow kept e
+raised_follows kept b first e book least (inl ((answered, above), is)) =
+    let all : heard kept ≡ next_free kept = sym book.heard ∙ answered ∙ book.next in
+    (first, is, subst (MayFollow kept) (sym is) (least, inr (refl, all)))
+raised_follows kept b first e book least (inr (not_all, is)) = (0, is, subst (MayFollow kept) (sym is) (least, inl refl))
+
 pub raised : (w new : World) (first : ℕ) → IsWorld w → Calls (λ m after. Raises m first after) w new → IsWorld new
 raised w new first known moves =
     let p = parts w moves.m moves.was known in
     let (book, none) = at_rest moves.m w.kept w.wire moves.goes.rest p in
     let is = moves.goes.after_is in
     let least : next_free w.kept ≤ first = omega (arith, moves.goes.least, book.next) in
+    let (hd, kept_is, follows) = raised_follows w.kept moves.m.book first moves.goes.kept book least moves.goes.kept_is in
     subst IsWorld (sym moves.is) (whole moves.after w.kept moves.wire w.told known.told
     (same_host moves.m moves.after w.kept w.wire moves.wire p (ap (λ m. m.host) is) moves.sound moves.wired
     (λ live. subst (λ b. IsBookOf b w.kept) (sym (ap (λ m. m.book) is)) book)
-    (subst (λ s. Holds w.kept p.hand (with_earlier p.earlier moves.m.host) s) (sym (ap (λ m. m.stage) is)) (least, (none, first, refl)))))
+    (subst (λ s. Holds w.kept p.hand (with_earlier p.earlier moves.m.host) s) (sym (ap (λ m. m.stage) is)) (follows, (none, first, hd, kept_is)))))
 
 pub cancels : (w new : World) (number : ℕ) → IsWorld w → Calls (λ m after. Cancels m number after) w new → IsWorld new
 cancels w new number known moves =
@@ -229,11 +237,12 @@ pub to_send : (b : Book) (kept : List Entry) (openings most : ℕ) (copy : Optio
     → IsSendable due.receipt → IsToSend kept due
 to_send b kept openings most copy due book is next fits =
     let first = next.first kept book in
+    let within : next_free kept + marks_taken due.openings ≤ limit_from (heard kept) = omega (arith, next.within, book.next, book.heard, ap marks_taken next.marks) in
     record {
       receipt = due_receipt kept copy due.number due.receipt is first;
-      within = omega (arith, next.within, book.next, ap marks_taken next.marks);
+      within = within;
       fits = fits;
-      follows = (first_waits kept due.number first.tried first.content first.first, omega (arith, le-max_right due.openings 1));
+      follows = (first_waits kept due.number first.tried first.content first.first, omega (arith, le-max_right due.openings 1), within);
       first = first_is_least kept due.number first.tried first.content first.first;
     }
 
@@ -299,8 +308,8 @@ told_parts m after kept w new n is p same sound wired =
 
 -- The owner is told news of a talk: the same receipt is sent on.
 news_holds : (kept : List Entry) (hand : Option Hand) (h : HostView) (talk : Talk) (recorded : Option ℕ) → Holds kept hand h (stage.Talking talk) → Holds kept hand h (stage.Talking (after_news recorded talk))
-news_holds kept hand h talk (Some n) (held, hand_is, number, receipt, follows, records, up, reserved, news) =
-    (held, hand_is, number, receipt, follows, records, up, reserved, λ k none. absurd (let bad : None ≡ Some k = none in cc))
+news_holds kept hand h talk (Some n) (held, hand_is, number, receipt, follows, records, up, reserved, news, known) =
+    (held, hand_is, number, receipt, follows, records, up, reserved, (λ k none. absurd (let bad : None ≡ Some k = none in cc)), known)
 news_holds kept hand h talk None holds = holds
 
 pub paused_parts : (m after : MachineView) (kept : List Entry) (w new : WireView) (talk : Talk) → m.stage ≡ stage.Talking talk → Parts m kept w → after ≡ told m.stage m → IsSound after.host

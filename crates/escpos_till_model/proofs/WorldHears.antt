@@ -3,10 +3,9 @@ use Rattle.std.proofs.Common.{ℕ, zero, suc, ◌≡◌, ◌≢◌, ◌+◌, ◌
 use Rattle.std.specs.Prelude.{map, slice_index}
 use Rattle.escpos_command.specs.declared.command.Command.{Command}
 use Rattle.escpos_host.specs.declared.send.SendFault.{SendFault}
-use Rattle.escpos_command.specs.Digits.{mark_count}
 use Rattle.escpos_host.specs.Counted.{id_of}
 use Rattle.escpos_host.specs.Earlier.{with_earlier}
-use Rattle.escpos_host.specs.Machine.{HostView, Phase, Down, Opening, Open, IsSound, in_flight, most_in_flight, receipts_of, submitted, HasMark, InFlight, closed_by, reports_asked}
+use Rattle.escpos_host.specs.Machine.{HostView, Phase, Down, Opening, Open, IsSound, in_flight, most_in_flight, receipts_of, submitted, HasMark, InFlight, closed_by, limit_from, reports_asked}
 use Rattle.escpos_command.specs.declared.answer.Answer.{Answer}
 use Rattle.escpos_command.specs.Answers.{HalfAnswer}
 use Rattle.escpos_host.specs.declared.host.HostEvent.{HostEvent}
@@ -33,12 +32,14 @@ use Rattle.escpos_till.specs.declared.machine.Stage.TheVariants as stage
 use Rattle.escpos_till.specs.Book.{IsBookOf}
 use Rattle.escpos_till.specs.declared.book.Book.{Book}
 use Rattle.escpos_till.specs.Entries.{IsLedger, MayFollow, Waits, next_free, recorded}
+use Rattle.escpos_till.specs.Entries.{heard as heard_in}
 use Rattle.escpos_till.specs.Tries.{ClosesTry, HasTry, tries}
 use Rattle.escpos_till.specs.declared.further.Further.{Further}
 use Rattle.escpos_till.specs.declared.machine.Due.{Due}
 use Rattle.escpos_till.specs.declared.machine.TillNote.{TillNote}
-use Rattle.escpos_till.specs.Further.{GoesFurther, IsAfter, IsText}
-use Rattle.escpos_till.proofs.EntryLemmas.{next_after_recorded}
+use Rattle.escpos_till.specs.Further.{GoesFurther, IsAfter, heard_by}
+use Rattle.escpos_till.proofs.EntryLemmas.{heard-snoc, next_after_recorded}
+use Rattle.escpos_till.proofs.MachineLemmas.{said_least}
 use Rattle.escpos_till.specs.declared.entry.Entry.TheVariants as entry
 use Rattle.escpos_till.specs.declared.machine.Talk.{Talk}
 use Rattle.escpos_till.specs.declared.machine.Then.TheVariants as then
@@ -47,9 +48,10 @@ use Rattle.escpos_till.specs.Machine.{Came, Drops, GoesOn as MachineGoesOn, Mach
 use Rattle.escpos_till_model.proofs.GoesOn.{answered_on}
 use Rattle.escpos_till_model.proofs.EntryFacts.{zip_length}
 use Rattle.escpos_till_model.proofs.Keeping.{asked_keeps, nothing_before, on_keeps, submitted_keeps}
-use Rattle.escpos_till_model.proofs.LateLemmas.{first_is_least, late_host, late_on, other_mark, which_try}
+use Rattle.escpos_till_model.proofs.HeardLemmas.{Rose, heard_rises, heard_same_host, record_heard, since_gone}
+use Rattle.escpos_till_model.proofs.LateLemmas.{are_below, are_near, first_is_least, has_tried, late_host, late_on, other_mark, which_try}
 use Rattle.escpos_till_model.specs.Kept.{Hand, IsSent, Reserves}
-use Rattle.escpos_till_model.specs.Known.{Accounted, Holds, IsToSendNext, IsWorld}
+use Rattle.escpos_till_model.specs.Known.{Accounted, Holds, IsToRecord, IsToSendNext, IsWorld}
 use Rattle.escpos_till_model.specs.Late.{HasJustBegun, LateAnswers}
 use Rattle.escpos_till_model.specs.Receipts.{IsReceiptOf}
 use Rattle.escpos_till_model.specs.World.{Hears, IsSendable, IsSo, Wired, World}
@@ -309,10 +311,31 @@ heard_begun h after bytes consumed e (inl (none, all, passed, same)) on begun = 
 )
 heard_begun h after bytes consumed e (inr (at, half, within, some, count, passed, byte)) on begun = begun_byte (with_half h half) after (slice_index bytes at) at e byte on some begun
 
+-- Where a receipt was recorded, a mark was answered.
+abbrev pub IsSome : HostEvent → HostView → Type 0
+IsSome (heard.Recorded number) h = 0 < h.heard
+IsSome e h = Unit {0}
+
+some_heard : (h after : HostView) (bytes : List ℕ) (consumed : ℕ) (e : HostEvent) → IsHeard h bytes consumed e after → IsSome e after
+some_heard h after bytes consumed heard.None is = tt
+some_heard h after bytes consumed heard.Opened is = tt
+some_heard h after bytes consumed (heard.Recorded number) is = record_heard h after bytes consumed number is
+some_heard h after bytes consumed (heard.Status byte) is = tt
+some_heard h after bytes consumed (heard.Condition block) is = tt
+some_heard h after bytes consumed (heard.Late id) is = tt
+some_heard h after bytes consumed (heard.BadAnswer place) is = tt
+
+-- What may be recorded may be with what the host has heard.
+record_follows : (kept : List Entry) (b : Book) (h : HostView) (number : ℕ) → IsBookOf b kept → MayFollow kept (entry.Recorded number 0) → MayFollow kept (entry.Recorded number (heard_by b h))
+record_follows kept b h number book (waits, tried, least) = (waits, tried, omega (arith, book.next))
+
+tried_some : (kept : List Entry) (number closing : ℕ) → IsLedger kept → HasTry (tries kept) number closing → 0 < next_free kept
+tried_some kept number closing ledger has = let below = (are_below kept ledger number closing has).0 in omega (arith, below)
+
 -- If the event is an answer to the closing mark of a try of a receipt that waits, that receipt stands after these.
 abbrev pub Shows : List Entry → List (List Command) → WireView → HostEvent → Type 0
 Shows kept receipts w e =
-    (number closing : ℕ) → Waits kept number → HasTry (tries kept) number closing → closing < mark_count → e ≡ heard.Late (id_of closing)
+    (number closing : ℕ) → Waits kept number → HasTry (tries kept) number closing → heard_in kept ≤ closing → e ≡ heard.Late (id_of closing)
     → (receipt : List Command) × IsReceiptOf kept number receipt × Stands w.printer.sheet.line_dots (receipts ++ receipt ∷ []) w.printer.sheet.items
 
 -- The account after an event, with what that shows.
@@ -326,9 +349,10 @@ pub record Heard (m after : MachineView) (kept : List Entry) (w wire : WireView)
   pub held : Hand
   pub number : held.number ≡ talk.number
   pub receipt : held.receipt ≡ talk.receipt
-  pub follows : MayFollow kept (entry.Recorded talk.number)
+  pub follows : MayFollow kept (entry.Recorded talk.number 0)
   pub reserved : (receipt : List Command) → talk.receipt ≡ Some receipt → (host.next < held.limit) × IsSendable receipt
   pub news : (number : ℕ) → talk.recorded ≡ Some number → IsSo kept (note_kind.Recorded number)
+  pub known : heard_in kept ≤ host.heard
   pub sound : IsSound host
   pub up : host.phase ≢ Down
   pub right : Right (line_of (with_earlier earlier host) w)
@@ -381,11 +405,12 @@ onward m after kept w wire talk consumed left host e x none same later number re
             refl,
             x.number ∙ sym number,
             x.receipt ∙ sym receipt,
-            subst (λ n. MayFollow kept (entry.Recorded n)) (sym number) x.follows,
+            subst (λ n. MayFollow kept (entry.Recorded n 0)) (sym number) x.follows,
             none,
             x.up,
             (λ r is. x.reserved r (sym receipt ∙ is)),
-            λ n is. x.news n (sym news ∙ is),
+            (λ n is. x.news n (sym news ∙ is)),
+            x.known,
           ));
     }
 
@@ -418,24 +443,28 @@ no_flight (f ∷ fs) (a ∷ others) some is none = absurd (let bad : a ∷ (othe
 -- A late answer proves the same after the receipt is submitted: it is the only one in flight, and its mark is its try's alone.
 submitted_late : LineLaws → (kept : List Entry) (hand : Hand) (h : HostView) (w : WireView) (receipt : List Command) (flight : List InFlight) → IsSound h → Right (line_of h w)
     → Right (line_of (submitted h flight receipt) w) → After (event.Submit receipt) (line_of h w) note.Done (line_of (submitted h flight receipt) w) → IsFitting (event.Submit receipt)
-    → hand.receipt ≡ Some receipt → h.phase ≡ Open flight → HasMark h → h.next < hand.limit → (a : Accounted kept (Some hand) h w)
+    → hand.receipt ≡ Some receipt → h.phase ≡ Open flight → HasMark h → h.next < hand.limit → heard_in kept ≤ h.heard → (a : Accounted kept (Some hand) h w)
     → LateAnswers kept a.keeps.receipts (line_of (submitted h flight receipt) w)
-submitted_late laws kept hand h w receipt flight sound right new_right happened fits has phase mark within a =
+submitted_late laws kept hand h w receipt flight sound right new_right happened fits has phase mark within known a =
     let l : LineView = line_of h w in
     let after : LineView = line_of (submitted h flight receipt) w in
     let rs = a.keeps.receipts in
     let sent : IsSent kept hand.number (Some receipt) (a.keeps.answered ++ in_flight h.phase) =
     subst (λ (r : Option (List Command)). IsSent kept hand.number r (a.keeps.answered ++ in_flight h.phase)) has a.keeps.in_hand.sent in
     let p : InFlight = closed_by receipt h.next in
-    let low : h.next < mark_count = let most = a.keeps.in_hand.reserved.few in omega (arith, within, most) in
     let alone : Open (flight ++ p ∷ []) ≡ Open (p ∷ []) = ap (λ f. Open (f ++ p ∷ [])) (no_flight flight a.keeps.answered (in_flight h.phase) (ap in_flight phase) sent.1) in
     let none : a.keeps.answered ≡ [] = nothing_before a.keeps.answered (in_flight h.phase) sent.1 in
     let records : h.records ≡ rs = a.keeps.records ∙ ap (λ v. rs ++ v) none ∙ append-nil rs in
     let own : Promised rs p after = subst (λ v. Promised v p after) records (laws.promise.in_flight after p new_right.trusted alone) in
     record {
       first = a.late.first;
-      promise = λ number closing waits tried few.
-          let (other, is, promised) = a.late.promise number closing waits tried few in
+      promise = λ number closing waits tried past.
+          let (other, is, promised) = a.late.promise number closing waits tried past in
+          let reserved = a.keeps.in_hand.reserved in
+          let near = are_near kept a.keeps.ledger in
+          let own_near = near hand.number (hand.limit - 1) (has_tried kept reserved.before reserved.following hand.number hand.limit reserved.entries_are) in
+          let others_near = near number closing tried in
+          let least = since_gone h a.keeps.since in
           let stays : id_of h.next ≢ id_of closing → (r : List Command) × IsReceiptOf kept number r × Promised rs (closed_by r closing) after =
           λ differs. (
             other,
@@ -443,9 +472,9 @@ submitted_late laws kept hand h w receipt flight sound right new_right happened 
             laws.promise.stays (event.Submit receipt) l after note.Done rs (closed_by other closing) fits sound right.line happened right.trusted differs promised,
           ) in
           elim (cases_lt closing h.next) [
-            | inl less ↦ stays (other_mark laws h.next closing low few (λ same. omega (arith, same, less)))
+            | inl less ↦ stays (λ same. other_mark laws closing h.next less (omega (arith, within, own_near, past)) (sym same))
             | inr more ↦ elim (cases_lt h.next closing) [
-              | inl greater ↦ stays (other_mark laws h.next closing low few (λ same. omega (arith, same, greater)))
+              | inl greater ↦ stays (other_mark laws h.next closing greater (omega (arith, others_near, known, least)))
               | inr fewer ↦
                   let same : closing ≡ h.next = omega (arith, more, fewer) in
                   let number_is = own_try kept hand h.next number closing a.keeps.ledger a.keeps.in_hand.reserved within tried same in (
@@ -487,9 +516,10 @@ given laws m after kept w wire talk consumed left host e receipt x none has (pha
     let then_sound = asked_sound before phase sound in
     let happened : After (event.Submit receipt) (line_of asked w) note.Done (line_of (submitted asked [] receipt) w) = ([], refl, phase, omega arith, mark, refl) in
     let right = goes laws (event.Submit receipt) (line_of asked w) (line_of (submitted asked [] receipt) w) note.Done fits then_sound ready happened in
+    let known_later : heard_in kept ≤ after.host.heard = omega (arith, x.known, ap (λ v. v.heard) same) in
     let account : Accounted kept (Some hand) (submitted asked [] receipt) w = record {
-      keeps = submitted_keeps kept x.held asked [] receipt (x.receipt ∙ has) phase within first.keeps;
-      late = submitted_late laws kept x.held asked w receipt [] then_sound ready right happened fits (x.receipt ∙ has) phase mark within first;
+      keeps = submitted_keeps kept x.held asked [] receipt (x.receipt ∙ has) phase within x.known first.keeps;
+      late = submitted_late laws kept x.held asked w receipt [] then_sound ready right happened fits (x.receipt ∙ has) phase mark within x.known first;
     } in
     record {
       earlier = x.earlier;
@@ -502,7 +532,7 @@ given laws m after kept w wire talk consumed left host e receipt x none has (pha
           absurd (let bad : Open (closed_by receipt host.next ∷ []) ≡ Opening first = ap (λ v. v.phase) (sym same) ∙ opening in cc);
       book = λ live. x.book;
       holds = subst (λ s. Holds kept (Some hand) (with_earlier x.earlier after.host) s) (sym now)
-          (hand, refl, x.number, refl, x.follows, ap (λ h. length (x.earlier ++ h.records)) same ∙ none, up, (λ r is. absurd (let bad : None ≡ Some r = is in cc)), x.news);
+          (hand, refl, x.number, refl, x.follows, ap (λ h. length (x.earlier ++ h.records)) same ∙ none, up, (λ r is. absurd (let bad : None ≡ Some r = is in cc)), x.news, known_later);
     }
 
 pub submits_parts : LineLaws → (m after : MachineView) (kept : List Entry) (w wire : WireView) (talk : Talk) (consumed left : ℕ) (host : HostView) (e : HostEvent) (receipt : Option (List Command))
@@ -515,12 +545,12 @@ submits_parts laws m after kept w wire talk consumed left host e None x none has
 
 -- A receipt that an answer to an older mark shows to stand is answered, as one in flight would be.
 late_parts : LineLaws → (m after : MachineView) (kept : List Entry) (w wire : WireView) (talk : Talk) (consumed left : ℕ) (host : HostView) (id : List ℕ)
-    → (x : Heard m after kept w wire talk consumed host (heard.Late id)) → Unrecorded kept x.earlier host → ClosesTry (tries kept) talk.number id → after.host ≡ host
-    → after.stage ≡ printed talk.number → Parts after kept wire
-late_parts laws m after kept w wire talk consumed left host id x none (closing, few, mark, has) same now =
+    → (x : Heard m after kept w wire talk consumed host (heard.Late id)) → Unrecorded kept x.earlier host → ClosesTry (tries kept) (heard_in kept) host.heard talk.number id → after.host ≡ host
+    → (b : Book) → IsBookOf b kept → after.stage ≡ printed b talk.number host → Parts after kept wire
+late_parts laws m after kept w wire talk consumed left host id x none (closing, past, before, mark, has) same b book now =
     let a = x.so.account in
     let rs = a.keeps.receipts in
-    let (receipt, is, stand) = x.so.shows talk.number closing x.follows.0 has few (ap heard.Late (sym mark ∙ sym (laws.first_round closing few))) in
+    let (receipt, is, stand) = x.so.shows talk.number closing x.follows.0 has past (ap heard.Late (sym mark)) in
     let (first, opening) = x.opening in
     let begun = x.begun first opening in
     let nothing : host.records ≡ [] = begun.0 in
@@ -549,6 +579,9 @@ late_parts laws m after kept w wire talk consumed left host id x none (closing, 
           below = own.below;
           sent = (receipt, subst (λ n. IsReceiptOf kept n receipt) (sym x.number) is, inr (ap (λ v. receipt ∷ in_flight v) opening));
         };
+        knows = heard_same_host kept (with_earlier x.earlier host) (with_earlier earlier host) refl refl a.keeps.knows;
+        most = a.keeps.most;
+        since = a.keeps.since;
       };
       late = late_host kept rs (with_earlier x.earlier host) (with_earlier earlier host) w refl refl a.late;
     } in
@@ -565,8 +598,8 @@ late_parts laws m after kept w wire talk consumed left host id x none (closing, 
       begun = subst HasJustBegun (sym same) x.begun;
       book = λ live. x.book;
       holds = subst (λ s. Holds kept (Some hand) (with_earlier earlier after.host) s) (sym now)
-          (subst (λ h. Holds kept (Some hand) (with_earlier earlier h) (stage.Keeping (entry.Recorded talk.number) (then.Recorded talk.number))) (sym same)
-          (x.follows, (hand, refl, x.number, refl, one_more, x.up)));
+          (subst (λ h. Holds kept (Some hand) (with_earlier earlier h) (printed b talk.number host)) (sym same)
+          (record_follows kept b host talk.number book x.follows, (hand, refl, x.number, (heard_by b host, refl, omega (arith, before, book.next, tried_some kept talk.number closing a.keeps.ledger has), omega arith), one_more, x.up)));
     }
 
 -- The receipt in flight is answered: that is to be kept, and perhaps with it that the next one is tried.
@@ -589,20 +622,22 @@ answered_parts m after kept w wire talk consumed host place x same holds =
 
 -- What may be sent over the same link.
 pub to_send_next : LineLaws → (kept : List Entry) (b : Book) (number : ℕ) (further : Option Further) (earlier : List (List Command)) (host : HostView) (due : Due) → IsBookOf b kept
-    → MayFollow kept (entry.Recorded number) → IsAfter b number further host due
-    → IsToSendNext (kept ++ entry.Recorded number ∷ []) (with_earlier earlier host) due (entry.Tried due.number (b.next + 1))
+    → MayFollow kept (entry.Recorded number (heard_by b host)) → IsAfter b number further host due
+    → IsToSendNext (kept ++ entry.Recorded number (heard_by b host) ∷ []) (with_earlier earlier host) due (entry.Tried due.number (b.next + 1))
 to_send_next laws kept b number further earlier host due book follows after =
-    let more : List Entry = kept ++ entry.Recorded number ∷ [] in
+    let hd : ℕ = heard_by b host in
+    let more : List Entry = kept ++ entry.Recorded number hd ∷ [] in
     let is = after.next kept book follows in
     let waits = after.waits kept book follows in
-    let free : next_free more ≡ b.next = next_after_recorded kept number ∙ sym book.next in
+    let free : next_free more ≡ b.next = next_after_recorded kept number hd ∙ sym book.next in
+    let within : b.next < limit_from (heard_in more) = omega (arith, after.within, heard-snoc kept (entry.Recorded number hd), said_least kept number hd) in
     record {
       receipt = due_receipt more after.how.copy due.number due.receipt after.text is;
       fits = record { fits = laws.fitting due.receipt after.whole after.commands; no_real_time = after.whole.no_real_time };
       tried_is = ap (λ n. entry.Tried due.number (n + 1)) (sym free);
-      follows = (waits, omega (arith, free));
+      follows = (waits, omega (arith, free), omega (arith, free, within));
       first = first_is_least more due.number is.tried is.content is.first;
-      within = omega (arith, free, after.within);
+      within = omega (arith, free, within);
       link = after.link;
       quiet = after.quiet;
       marks = after.marks ∙ sym free;
@@ -610,43 +645,51 @@ to_send_next laws kept b number further earlier host due book follows after =
 
 recorded_parts : LineLaws → (m after : MachineView) (kept : List Entry) (w wire : WireView) (talk : Talk) (consumed : ℕ) (host : HostView) (place : ℕ) (b : Book)
     (old : List (List Command)) → IsBookOf b kept → (x : Heard m after kept w wire talk consumed host (heard.Recorded place)) → length (x.earlier ++ old) ≡ length (recorded kept)
-    → length old < length host.records → after.host ≡ host → (after.stage ≡ printed talk.number) ⊎ GoesFurther b talk.number talk.further host after.stage → Parts after kept wire
-recorded_parts laws m after kept w wire talk consumed host place b old book x count more same goes =
+    → length old < length host.records → 0 < host.heard → after.host ≡ host → (after.stage ≡ printed b talk.number host) ⊎ GoesFurther b talk.number talk.further host after.stage → Parts after kept wire
+recorded_parts laws m after kept w wire talk consumed host place b old book x count more some same goes =
     let one_more : length (recorded kept) < length (x.earlier ++ host.records) = omega (arith, count, more, length-append x.earlier old, length-append x.earlier host.records) in
+    let a = x.so.account in
+    let reserved = a.keeps.in_hand.reserved in
+    let own = has_tried kept reserved.before reserved.following x.held.number x.held.limit reserved.entries_are in
+    let hd : ℕ = heard_by b host in
+    let follows = record_follows kept b host talk.number book x.follows in
+    let to_record : IsToRecord kept (Some x.held) (with_earlier x.earlier host) (entry.Recorded talk.number hd) talk.number =
+    (x.held, refl, x.number, (hd, refl, omega (arith, some, book.next, tried_some kept x.held.number (x.held.limit - 1) a.keeps.ledger own), omega arith), one_more, x.up) in
     elim goes [
       | inl now ↦
           answered_parts m after kept w wire talk consumed host place x same
-          (subst (λ s. Holds kept (Some x.held) (with_earlier x.earlier host) s) (sym now) (x.follows, (x.held, refl, x.number, refl, one_more, x.up)))
+          (subst (λ s. Holds kept (Some x.held) (with_earlier x.earlier host) s) (sym now) (follows, to_record))
       | inr on ↦
           answered_parts m after kept w wire talk consumed host place x same
           (subst (λ s. Holds kept (Some x.held) (with_earlier x.earlier host) s) (sym on.stage_is)
-          (x.follows, ((x.held, refl, x.number, refl, one_more, x.up), to_send_next laws kept b talk.number talk.further x.earlier host on.due book x.follows on.after)))
+          (follows, (to_record, to_send_next laws kept b talk.number talk.further x.earlier host on.due book follows on.after)))
     ]
 
 pub turned_parts : LineLaws → (m after : MachineView) (kept : List Entry) (w wire : WireView) (talk : Talk) (consumed left : ℕ) (host : HostView) (e : HostEvent) (b : Book)
     (old : List (List Command)) → IsBookOf b kept
-    → (x : Heard m after kept w wire talk consumed host e) → length (x.earlier ++ old) ≡ length (recorded kept) → Grew e old host.records → (EndsLink e → ⊥)
+    → (x : Heard m after kept w wire talk consumed host e) → length (x.earlier ++ old) ≡ length (recorded kept) → Grew e old host.records → IsSome e host → (EndsLink e → ⊥)
     → MachineTurns b e talk left host after.host after.stage → Parts after kept wire
-turned_parts laws m after kept w wire talk consumed left host heard.None b old book x count more on so =
+turned_parts laws m after kept w wire talk consumed left host heard.None b old book x count more some on so =
     goes_on_parts laws m after kept w wire talk consumed left host heard.None x (ap (λ rs. length (x.earlier ++ rs)) more ∙ count) so
-turned_parts laws m after kept w wire talk consumed left host (heard.Status byte) b old book x count more on so =
+turned_parts laws m after kept w wire talk consumed left host (heard.Status byte) b old book x count more some on so =
     goes_on_parts laws m after kept w wire talk consumed left host (heard.Status byte) x (ap (λ rs. length (x.earlier ++ rs)) more ∙ count) so
-turned_parts laws m after kept w wire talk consumed left host (heard.Condition block) b old book x count more on (p, told, so) =
+turned_parts laws m after kept w wire talk consumed left host (heard.Condition block) b old book x count more some on (p, told, so) =
     goes_on_as laws m after kept w wire talk (with_pause talk p) consumed left host (heard.Condition block) x (ap (λ rs. length (x.earlier ++ rs)) more ∙ count) refl refl refl so
-turned_parts laws m after kept w wire talk consumed left host (heard.Late id) b old book x count more on (inl (closes, same, now)) =
-    late_parts laws m after kept w wire talk consumed left host id x (ap (λ rs. length (x.earlier ++ rs)) more ∙ count) (subst (λ ts. ClosesTry ts talk.number id) book.tries closes) same now
-turned_parts laws m after kept w wire talk consumed left host (heard.Late id) b old book x count more on (inr (other, so)) =
+turned_parts laws m after kept w wire talk consumed left host (heard.Late id) b old book x count more some on (inl (closes, same, now)) =
+    late_parts laws m after kept w wire talk consumed left host id x (ap (λ rs. length (x.earlier ++ rs)) more ∙ count) (subst (λ hd. ClosesTry (tries kept) hd host.heard talk.number id) book.heard
+    (subst (λ ts. ClosesTry ts b.heard host.heard talk.number id) book.tries closes)) same b book now
+turned_parts laws m after kept w wire talk consumed left host (heard.Late id) b old book x count more some on (inr (other, so)) =
     goes_on_parts laws m after kept w wire talk consumed left host (heard.Late id) x (ap (λ rs. length (x.earlier ++ rs)) more ∙ count) so
-turned_parts laws m after kept w wire talk consumed left host heard.Opened b old book x count more on so =
+turned_parts laws m after kept w wire talk consumed left host heard.Opened b old book x count more some on so =
     submits_parts laws m after kept w wire talk consumed left host heard.Opened talk.receipt x (ap (λ rs. length (x.earlier ++ rs)) more ∙ count) refl so
-turned_parts laws m after kept w wire talk consumed left host (heard.Recorded place) b old book x count more on (same, goes) =
-    recorded_parts laws m after kept w wire talk consumed host place b old book x count more same goes
-turned_parts laws m after kept w wire talk consumed left host (heard.BadAnswer place) b old book x count more on so = absurd (on tt)
+turned_parts laws m after kept w wire talk consumed left host (heard.Recorded place) b old book x count more some on (same, goes) =
+    recorded_parts laws m after kept w wire talk consumed host place b old book x count more some same goes
+turned_parts laws m after kept w wire talk consumed left host (heard.BadAnswer place) b old book x count more some on so = absurd (on tt)
 
 pub hears : LineLaws → (w new : World) (most : ℕ) → IsWorld w → Hears w most new → IsWorld new
 hears laws w new most known v =
     let p = parts w v.m v.was known in
-    let (held, hand_is, number, receipt, follows, records, up, reserved, news) = talking_holds v.m w.kept w.wire v.talk v.talks p in
+    let (held, hand_is, number, receipt, follows, records, up, reserved, news, known_before) = talking_holds v.m w.kept w.wire v.talk v.talks p in
     let (e, host, hears_one, turns, book, all) = subst (λ s. Came s (take most w.wire.coming) v.consumed v.m v.after) v.talks v.came in
     let is_heard = hears_one.1 up in
     let on = in_turn laws p.earlier v.m.host host w.wire most v.consumed e up p.right is_heard in
@@ -660,14 +703,16 @@ hears laws w new most known v =
     let sound = earlier_sound p.earlier v.m.host p.sound in
     let last : last_of (map (shifted (length p.earlier)) one.events) ≡ shifted (length p.earlier) e =
     last_shifted (length p.earlier) one.events ∙ ap (shifted (length p.earlier)) one.last in
+    let rose = heard_rises v.m.host host (take most w.wire.coming) v.consumed e (λ first opening. (p.begun first opening).1) p.account.keeps.since is_heard in
+    let rose_so : Rose (with_earlier p.earlier v.m.host) (with_earlier p.earlier host) = record { since = rose.since; rose = rose.rose } in
     let so : HeardSo w.kept p.hand (with_earlier p.earlier host) middle e = record {
       account = record {
-        keeps = on_keeps w.kept p.hand (with_earlier p.earlier v.m.host) (with_earlier p.earlier host) went p.account.keeps;
+        keeps = on_keeps w.kept p.hand (with_earlier p.earlier v.m.host) (with_earlier p.earlier host) went rose_so p.account.keeps;
         late = late_on laws w.kept p.account.keeps.receipts (event.Answer v.consumed) before (line_of (with_earlier p.earlier host) middle) _ tt sound p.right happened
-            (λ number closing has few. tt) p.account.late;
+            (λ number closing has past. tt) p.account.late;
       };
-      shows = λ number closing waits has few late.
-          let (receipt, is, promised) = p.account.late.promise number closing waits has few in
+      shows = λ number closing waits has past late.
+          let (receipt, is, promised) = p.account.late.promise number closing waits has past in
           let told : note.Heard v.consumed (last_of (map (shifted (length p.earlier)) one.events)) ≡ note.Heard v.consumed (heard.Late (id_of closing)) =
           ap (note.Heard v.consumed) (last ∙ ap (shifted (length p.earlier)) late) in (
             receipt,
@@ -686,6 +731,7 @@ hears laws w new most known v =
       follows = follows;
       reserved = λ r is. let had = reserved r is in (omega (arith, went.next, had.0), had.1);
       news = news;
+      known = omega (arith, known_before, rose.rose);
       sound = one.sound;
       up = one.up;
       right = right;
@@ -704,4 +750,4 @@ hears laws w new most known v =
     subst IsWorld (sym v.is) (whole v.after w.kept v.wire w.told known.told
     (turned_parts laws v.m v.after w.kept middle v.wire v.talk v.consumed (v.talk.left - v.consumed) host e v.m.book v.m.host.records
     (talking_book v.m w.kept w.wire v.talk v.talks p) x records
-    (grew v.m.host host (take most w.wire.coming) v.consumed e is_heard on) on turns))
+    (grew v.m.host host (take most w.wire.coming) v.consumed e is_heard on) (some_heard v.m.host host (take most w.wire.coming) v.consumed e is_heard) on turns))

@@ -3,7 +3,6 @@ use Rattle.std.proofs.Common.{ℕ, zero, suc, true, false, ◌==◌, ◌≡◌, 
 use Rattle.std.specs.Prelude.{Bool}
 use Rattle.std.specs.List.{AllByRecursion, position_from}
 use Rattle.std.proofs.Math.Nat.{le-max_right}
-use Rattle.escpos_command.specs.Digits.{mark_count}
 use Rattle.escpos_host.specs.Earlier.{with_earlier}
 use Rattle.escpos_host.specs.Machine.{HostView, IsSound}
 use Rattle.escpos_link.specs.Wire.{WireView, line_of}
@@ -22,7 +21,8 @@ use Rattle.escpos_till.specs.Book.{IsBookOf}
 use Rattle.escpos_till.specs.Delivers.{marks_taken}
 use Rattle.escpos_till.specs.Entries.{MayFollow, Waits, cancel_place_of, cancelled, last_number, next_free, place_in, place_of, record_of, state_by, state_of, times_tried}
 use Rattle.escpos_till.specs.Learning.{FailsToLearn, FollowAll, IsOthers, LearnsAll, Revises, WaitsIn}
-use Rattle.escpos_till.specs.Machine.{Drops, MachineView, printed}
+use Rattle.escpos_till.specs.Further.{heard_by}
+use Rattle.escpos_till.specs.Machine.{Drops, MachineView, mark_limit, printed}
 use Rattle.escpos_till.specs.Tries.{tries}
 use Rattle.escpos_till.proofs.EntryLemmas.{earlier_grows}
 use Rattle.escpos_till.proofs.LearningLemmas.{others_recorded, others_tried}
@@ -32,9 +32,10 @@ use Rattle.escpos_till_model.specs.Late.{HasJustBegun}
 use Rattle.escpos_till_model.specs.Receipts.{Among}
 use Rattle.escpos_till_model.specs.World.{IsSo, Learns, Wired, World}
 use Rattle.escpos_till_model.proofs.Accounts.{place_given}
-use Rattle.escpos_till_model.proofs.EntryFacts.{cancelled_append, receipt_of_grows}
+use Rattle.escpos_till_model.proofs.EntryFacts.{cancelled_append, next_grows, receipt_of_grows}
 use Rattle.escpos_till_model.proofs.LinesKept.{LineLaws, Right, same_wire, drops_right}
 use Rattle.escpos_till_model.proofs.WorldCalls.{AreSo, Parts, gone_account, gone_begun, parts, whole}
+use Rattle.escpos_till_model.proofs.HeardLemmas.{IsPlain}
 use Rattle.escpos_till_model.proofs.WorldStore.{lost_holds, lost_lags, more_account, so_grows, so_later}
 use Rattle.escpos_till_model.proofs.WorldHears.{to_send_next}
 
@@ -43,22 +44,32 @@ use Rattle.escpos_till_model.proofs.WorldHears.{to_send_next}
 other_records : (e : Entry) → IsOthers e → record_of e ≡ None
 other_records (entry.Queued content) is = refl
 other_records (entry.Tried n next) is = absurd is
-other_records (entry.Recorded n) is = absurd is
-other_records (entry.Raised next) is = refl
+other_records (entry.Recorded n hd) is = absurd is
+other_records (entry.Raised next hd) is = refl
 other_records (entry.Cancelled n) is = refl
 other_records (entry.Key key) is = refl
-other_records (entry.Renewed last) is = absurd is
+other_records (entry.Renewed last hd) is = absurd is
 other_records (entry.Earlier n key) is = absurd is
 
 other_tries : (e : Entry) → IsOthers e → tries (e ∷ []) ≡ []
 other_tries (entry.Queued content) is = refl
 other_tries (entry.Tried n next) is = absurd is
-other_tries (entry.Recorded n) is = absurd is
-other_tries (entry.Raised next) is = refl
+other_tries (entry.Recorded n hd) is = absurd is
+other_tries (entry.Raised next hd) is = refl
 other_tries (entry.Cancelled n) is = refl
 other_tries (entry.Key key) is = refl
-other_tries (entry.Renewed last) is = absurd is
+other_tries (entry.Renewed last hd) is = absurd is
 other_tries (entry.Earlier n key) is = absurd is
+
+other_plain : (e : Entry) → IsOthers e → IsPlain e
+other_plain (entry.Queued content) is = tt
+other_plain (entry.Raised next hd) is = tt
+other_plain (entry.Cancelled n) is = tt
+other_plain (entry.Key key) is = tt
+other_plain (entry.Tried n next) is = absurd is
+other_plain (entry.Recorded n hd) is = absurd is
+other_plain (entry.Renewed last hd) is = absurd is
+other_plain (entry.Earlier n key) is = absurd is
 
 -- With those of others the entries are accounted for still, whatever is in hand.
 others_account : LineLaws → (kept others : List Entry) (hand : Option Hand) (h : HostView) (w : WireView) → AllByRecursion IsOthers others → FollowAll kept others → Accounted kept hand h w
@@ -66,7 +77,13 @@ others_account : LineLaws → (kept others : List Entry) (hand : Option Hand) (h
 others_account laws kept [] hand h w each follow a = subst (λ es. Accounted es hand h w) (sym (append-nil kept)) a
 others_account laws kept (e ∷ others) hand h w (is, each) (follows, follow) a =
     subst (λ es. Accounted es hand h w) (append_assoc kept (e ∷ []) others)
-    (others_account laws (kept ++ e ∷ []) others hand h w each follow (more_account laws kept e hand h w (other_records e is) (other_tries e is) follows a))
+    (others_account laws (kept ++ e ∷ []) others hand h w each follow (more_account laws kept e hand h w (other_plain e is) (other_records e is) (other_tries e is) follows a))
+
+others_next : (kept others : List Entry) → FollowAll kept others → next_free kept ≤ next_free (kept ++ others)
+others_next kept [] follow = subst (λ es. next_free kept ≤ next_free es) (sym (append-nil kept)) (omega arith)
+others_next kept (e ∷ others) (follows, follow) =
+    subst (λ es. next_free kept ≤ next_free es) (append_assoc kept (e ∷ []) others)
+    (omega (arith, next_grows kept e follows, others_next (kept ++ e ∷ []) others follow))
 
 pub so_with_others : (kept others : List Entry) (notes : List TillNote) → FollowAll kept others → AreSo kept notes → AreSo (kept ++ others) notes
 so_with_others kept [] notes follow so = subst (λ es. AreSo es notes) (sym (append-nil kept)) so
@@ -125,12 +142,12 @@ cancelled_so es n tried so = cancelled_by es n tried (place_of es n) (cancel_pla
 
 -- The try that is to be kept now.
 sends_still : (kept others : List Entry) (due : Due) (b : Book) → AllByRecursion IsOthers others → IsBookOf b (kept ++ others) → Waits (kept ++ others) due.number
-    → b.next + marks_taken due.openings ≤ mark_count → IsToSend kept due → IsToSend (kept ++ others) due
+    → b.next + marks_taken due.openings ≤ mark_limit b → IsToSend kept due → IsToSend (kept ++ others) due
 sends_still kept others due b each book waits marks send = record {
   receipt = receipt_of_grows kept others due.number due.receipt send.receipt;
-  within = omega (arith, book.next, marks);
+  within = omega (arith, book.next, book.heard, marks);
   fits = send.fits;
-  follows = (waits, omega (arith, le-max_right due.openings 1));
+  follows = (waits, omega (arith, le-max_right due.openings 1), omega (arith, book.next, book.heard, marks));
   first = λ k waits_k. elim (waited_or_taken kept others k each waits_k) [
     | inl waited ↦ send.first k waited
     | inr since ↦ omega (arith, since, send.follows.0.taken)
@@ -173,15 +190,18 @@ stays_on laws m after kept others w new p each follow same sound wired book hold
 
 -- What is heard of a receipt is still to be kept.
 still_records : LineLaws → (m after : MachineView) (kept others : List Entry) (w new : WireView) (e : Entry) (n : ℕ) → (p : Parts m kept w) → AllByRecursion IsOthers others → FollowAll kept others
-    → MayFollow kept e → IsToRecord kept p.hand (with_earlier p.earlier m.host) e n → IsBookOf after.book (kept ++ others) → WaitsIn after.book n → after.host ≡ m.host → after.stage ≡ printed n
+    → MayFollow kept e → IsToRecord kept p.hand (with_earlier p.earlier m.host) e n → IsBookOf after.book (kept ++ others) → WaitsIn after.book n → after.host ≡ m.host → after.stage ≡ printed after.book n m.host
     → IsSound after.host → Wired m.host after.host w new → Parts after (kept ++ others) new
-still_records laws m after kept others w new e n p each follow follows (held, hand_is, number, is, fewer, up) book waits same now sound wired =
+still_records laws m after kept others w new e n p each follow follows (held, hand_is, number, (hd, is, some, heard_so), fewer, up) book waits same now sound wired =
     let more : List Entry = kept ++ others in
-    let before : MayFollow kept (entry.Recorded n) = subst (MayFollow kept) is follows in
+    let before : MayFollow kept (entry.Recorded n hd) = subst (MayFollow kept) is follows in
     let tried : 0 < times_tried more n = omega (arith, others_tried kept others n each, before.1) in
     let counts = ap length (others_recorded kept others each) in
     stays_on laws m after kept others w new p each follow same sound wired book
-    (subst (λ s. Holds more p.hand (with_earlier p.earlier m.host) s) (sym now) ((waits more book, tried), (held, hand_is, number, refl, omega (arith, fewer, counts), up)))
+    (subst (λ s. Holds more p.hand (with_earlier p.earlier m.host) s) (sym now) (
+      (waits more book, tried, omega (arith, book.next)),
+      (held, hand_is, number, (heard_by after.book m.host, refl, omega (arith, some, heard_so, book.next, before.2, others_next kept others follow), omega arith), omega (arith, fewer, counts), up),
+    ))
 
 learned_parts : LineLaws → (m after : MachineView) (kept others : List Entry) (w new : WireView) (e : Entry) (next : Then) → (p : Parts m kept w) → AllByRecursion IsOthers others → FollowAll kept others
     → MayFollow kept e → IsToKeep kept p.hand (with_earlier p.earlier m.host) e next → IsBookOf after.book (kept ++ others) → Revises next after.book m.host after.host after.stage → IsSound after.host
@@ -208,16 +228,16 @@ learned_parts laws m after kept others w new e (then.Recorded n) p each follow f
     (subst (λ s. Holds (kept ++ others) None (with_earlier p.earlier after.host) s) (sym now) (refl, cancelled_so (kept ++ others) n tried (cancelled (kept ++ others) book)))
 learned_parts laws m after kept others w new e (then.GoOn n tried due) p each follow follows (to_record, send) book (inl (waits, same, inl now)) sound wired =
     still_records laws m after kept others w new e n p each follow follows to_record book waits same now sound wired
-learned_parts laws m after kept others w new e (then.GoOn n tried due) p each follow follows ((held, hand_is, number, is, fewer, up), send) book (inl (waits, same, inr goes)) sound wired =
+learned_parts laws m after kept others w new e (then.GoOn n tried due) p each follow follows ((held, hand_is, number, (hd, is, some, heard_so), fewer, up), send) book (inl (waits, same, inr goes)) sound wired =
     let more : List Entry = kept ++ others in
-    let before : MayFollow kept (entry.Recorded n) = subst (MayFollow kept) is follows in
+    let before : MayFollow kept (entry.Recorded n hd) = subst (MayFollow kept) is follows in
     let times : 0 < times_tried more n = omega (arith, others_tried kept others n each, before.1) in
     let counts = ap length (others_recorded kept others each) in
-    let may : MayFollow more (entry.Recorded n) = (waits more book, times) in
+    let may : MayFollow more (entry.Recorded n (heard_by after.book m.host)) = (waits more book, times, omega (arith, book.next)) in
     stays_on laws m after kept others w new p each follow same sound wired book
     (subst (λ s. Holds more p.hand (with_earlier p.earlier m.host) s) (sym goes.stage_is) (
       may,
-      ((held, hand_is, number, refl, omega (arith, fewer, counts), up), to_send_next laws more after.book n due.further p.earlier m.host goes.due book may goes.after),
+      ((held, hand_is, number, (heard_by after.book m.host, refl, omega (arith, some, heard_so, book.next, before.2, others_next kept others follow), omega arith), omega (arith, fewer, counts), up), to_send_next laws more after.book n due.further p.earlier m.host goes.due book may goes.after),
     ))
 learned_parts laws m after kept others w new e (then.GoOn n tried due) p each follow follows to_keep book (inr (times, cancelled, drops, now)) sound wired =
     gives_up laws m after kept others w new p each follow drops sound wired (λ live. book)

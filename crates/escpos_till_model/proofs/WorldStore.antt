@@ -24,7 +24,7 @@ use Rattle.escpos_till.specs.declared.entry.Content.{Content}
 use Rattle.escpos_till.specs.declared.entry.Entry.{Entry}
 use Rattle.escpos_till.specs.declared.machine.Stage.TheVariants as stage
 use Rattle.escpos_till.specs.Book.{IsBookOf}
-use Rattle.escpos_till.specs.Entries.{IsLedger, MayFollow, cancelled, earlier, last_number, next_free, record_of, recorded, states, times_tried}
+use Rattle.escpos_till.specs.Entries.{IsLedger, MayFollow, cancelled, earlier, heard, last_number, next_free, record_of, recorded, states, times_tried}
 use Rattle.escpos_till.specs.declared.entry.Entry.TheVariants as entry
 use Rattle.escpos_till.specs.declared.machine.Due.{Due}
 use Rattle.escpos_till.specs.declared.machine.Talk.{Talk}
@@ -40,49 +40,69 @@ use Rattle.escpos_till.proofs.EntryLemmas.{last-states, last_grows}
 use Rattle.escpos_till_model.proofs.Accounts.{times_stay}
 use Rattle.escpos_till_model.proofs.EntryFacts.{among_more, cancelled_append, recorded_append, zip_length}
 use Rattle.escpos_till_model.proofs.GoesOn.{GoesOn, taken_on}
-use Rattle.escpos_till_model.proofs.Keeping.{anew, entry_keeps, front_of, gone_keeps, on_keeps, record_keeps}
+use Rattle.escpos_till_model.proofs.Keeping.{anew, entry_keeps, front_of, gone_keeps, hung_next, on_keeps, record_keeps}
 use Rattle.escpos_till_model.specs.Receipts.{Among, IsReceiptOf}
 use Rattle.escpos_till_model.specs.Kept.{Hand, Keeps}
 use Rattle.escpos_till_model.specs.Known.{Accounted, BookMayLag, Holds, IsHostOf, IsToKeep, IsToRecord, IsToSend, IsToSendNext, IsWorld}
 use Rattle.escpos_till_model.specs.Late.{HasJustBegun, LateAnswers}
 use Rattle.escpos_till_model.specs.World.{Breaks, Crashes, GoesOnWire, Idles, IsSo, Puts, Starts, Stores, StoresBoth, Wired, World, is_printer_event, off, running, with_entry, with_wire, without_entry}
-use Rattle.escpos_till_model.proofs.LateLemmas.{has_tried, late_fresh, late_idle, late_more, late_on, late_recorded, late_tried}
+use Rattle.escpos_till_model.proofs.HeardLemmas.{IsPlain, MayKnow, idle_at, mark_within, may_know}
+use Rattle.escpos_till_model.proofs.LateLemmas.{has_tried, late_fresh, late_host, late_idle, late_more, late_on, late_recorded, late_tried}
 use Rattle.escpos_till_model.proofs.LinesKept.{LineLaws, Right, goes, down_or_up, none_given_up, drops_right, drops_hung}
 use Rattle.escpos_till_model.proofs.WorldCalls.{ended_so, AreSo, Parts, whole, parts, let_go, gone_account, gone_begun}
 
 -- ## A host that has sent nothing
 
-pub anew_is : (earlier : List (List Command)) (h : HostView) (kept : List Entry) (hand : Option Hand) (f : ℕ) → (k : Keeps kept hand (with_earlier earlier h))
-    → anew (with_earlier earlier h) f (length (recorded kept)) ≡ with_earlier k.receipts (fresh f)
-anew_is earlier h kept hand f k =
+pub anew_is : (earlier : List (List Command)) (h : HostView) (kept : List Entry) (hand : Option Hand) (f hd : ℕ) → (k : Keeps kept hand (with_earlier earlier h))
+    → anew (with_earlier earlier h) f (length (recorded kept)) hd ≡ with_earlier k.receipts (idle_at f hd)
+anew_is earlier h kept hand f hd k =
     let count : ℕ = length (recorded kept) in
-    ap (λ rs. record { phase = Down; out = []; half = []; next = f; heard = 0; records = rs; left = [] })
+    ap (λ rs. record { phase = Down; out = []; half = []; next = f; heard = hd; records = rs; left = [] })
     (ap (take count) k.records ∙ front_of count k.receipts k.answered (zip_length (IsReceiptOf kept) (recorded kept) k.receipts k.are) ∙ sym (append-nil k.receipts))
 
-pub anew_right : LineLaws → (l : LineView) (f count : ℕ) → l.host.next ≤ f → Right l → Right (resumed_from l f count 0)
-anew_right laws l f count within right = record {
-  line = off_link_kept l (anew l.host f count) right.line refl refl;
-  trusted = (laws.trust.resumes_from l f count 0 within (omega arith) right.trusted).0;
+pub anew_right : LineLaws → (l : LineView) (f count hd : ℕ) → l.host.next ≤ f → MayKnow l.host f hd → Right l → Right (resumed_from l f count hd)
+anew_right laws l f count hd within (inl known) right = record {
+  line = off_link_kept l (anew l.host f count hd) right.line refl refl;
+  trusted = (laws.trust.resumes_from l f count hd within known right.trusted).0;
+}
+anew_right laws l f count hd within (inr (answered, most)) right = record {
+  line = off_link_kept l (anew l.host f count hd) right.line refl refl;
+  trusted = (laws.trust.resumes_answered l f count hd answered most right.trusted).0;
 }
 
 -- Whatever it was before, it goes on with the receipts that are recorded.
-pub fresh_right : LineLaws → (earlier : List (List Command)) (h : HostView) (w : WireView) (kept : List Entry) (hand : Option Hand) (f : ℕ) → h.phase ≡ Down
-    → Right (line_of (with_earlier earlier h) w) → (k : Keeps kept hand (with_earlier earlier h)) → h.next ≤ f → Right (line_of (with_earlier k.receipts (fresh f)) w)
-fresh_right laws earlier h w kept hand f down right k within =
+pub fresh_right : LineLaws → (earlier : List (List Command)) (h : HostView) (w : WireView) (kept : List Entry) (hand : Option Hand) (f hd : ℕ) → h.phase ≡ Down
+    → Right (line_of (with_earlier earlier h) w) → (k : Keeps kept hand (with_earlier earlier h)) → h.next ≤ f → MayKnow h f hd → Right (line_of (with_earlier k.receipts (idle_at f hd)) w)
+fresh_right laws earlier h w kept hand f hd down right k within may =
     let count : ℕ = length (recorded kept) in
     let before : HostView = with_earlier earlier h in
-    let host = anew_is earlier h kept hand f k in
+    let host = anew_is earlier h kept hand f hd k in
     let wire : given_up w ≡ w = none_given_up before w down right.line in
-    let resumed_right : Right (line_of (anew before f count) (given_up w)) = anew_right laws (line_of before w) f count within right in
-    subst (λ v. Right (line_of (with_earlier k.receipts (fresh f)) v)) wire (subst (λ v. Right (line_of v (given_up w))) host resumed_right)
+    let resumed_right : Right (line_of (anew before f count hd) (given_up w)) = anew_right laws (line_of before w) f count hd within may right in
+    subst (λ v. Right (line_of (with_earlier k.receipts (idle_at f hd)) v)) wire (subst (λ v. Right (line_of v (given_up w))) host resumed_right)
 
-abbrev pub fresh_keeps : (earlier : List (List Command)) (h : HostView) (kept : List Entry) (hand : Option Hand) (f : ℕ) → (k : Keeps kept hand (with_earlier earlier h)) → f ≤ next_free kept
-    → Keeps kept None (with_earlier k.receipts (fresh f))
-fresh_keeps earlier h kept hand f k within =
-    record { ledger = k.ledger; receipts = k.receipts; are = k.are; answered = []; records = refl; next = within; in_hand = refl }
+-- A host that goes on so knows what the entries say.
+abbrev pub fresh_keeps : (earlier : List (List Command)) (h : HostView) (kept : List Entry) (hand : Option Hand) (f hd : ℕ) → (k : Keeps kept hand (with_earlier earlier h)) → f ≤ next_free kept
+    → heard kept ≤ hd → hd ≤ f → Keeps kept None (with_earlier k.receipts (idle_at f hd))
+fresh_keeps earlier h kept hand f hd k within known below = record {
+  ledger = k.ledger;
+  receipts = k.receipts;
+  are = k.are;
+  answered = [];
+  records = refl;
+  next = within;
+  in_hand = refl;
+  knows = inl known;
+  most = k.most;
+  since = below;
+}
 
-pub fresh_begun : (f : ℕ) → HasJustBegun (fresh f)
-fresh_begun f first is = let bad : Down ≡ Opening first = is in absurd cc
+pub fresh_begun : (f hd : ℕ) → HasJustBegun (idle_at f hd)
+fresh_begun f hd first is = let bad : Down ≡ Opening first = is in absurd cc
+
+-- The host of a new machine.
+pub fresh_is : (f hd : ℕ) → hd ≤ f → fresh f hd ≡ idle_at f hd
+fresh_is f hd below = ap (idle_at f) (omega (arith, below))
 
 pub started : LineLaws → (w new : World) → IsWorld w → Starts w new → IsWorld new
 started laws w new known starts =
@@ -90,20 +110,22 @@ started laws w new known starts =
     let next : starts.m.book.next ≡ next_free w.kept = starts.book.next in
     let a = known.account in
     let rs = a.keeps.receipts in
-    let f = starts.m.book.next in
-    let right = fresh_right laws known.earlier known.host w.wire w.kept known.hand f down (record { line = known.line; trusted = known.trusted }) a.keeps
-    (omega (arith, a.keeps.next, next)) in
-    let account : Accounted w.kept None (with_earlier rs (fresh f)) w.wire = record {
-      keeps = fresh_keeps known.earlier known.host w.kept known.hand f a.keeps (omega (arith, next));
-      late = late_fresh w.kept rs known.earlier rs known.host w.wire f known.sound down a.late;
+    let f : ℕ = next_free w.kept in
+    let hd : ℕ = heard w.kept in
+    let host : starts.m.host ≡ idle_at f hd = starts.started.host ∙ ap (λ n. fresh n starts.m.book.heard) next ∙ ap (fresh f) starts.book.heard ∙ fresh_is f hd a.keeps.most in
+    let right = fresh_right laws known.earlier known.host w.wire w.kept known.hand f hd down (record { line = known.line; trusted = known.trusted }) a.keeps
+    a.keeps.next (may_know w.kept (with_earlier known.earlier known.host) f a.keeps.knows a.keeps.most) in
+    let account : Accounted w.kept None (with_earlier rs (idle_at f hd)) w.wire = record {
+      keeps = fresh_keeps known.earlier known.host w.kept known.hand f hd a.keeps (omega arith) (omega arith) a.keeps.most;
+      late = late_fresh w.kept rs known.earlier rs known.host w.wire f hd known.sound down a.late;
     } in
     subst IsWorld (sym starts.is) (whole starts.m w.kept w.wire w.told known.told (record {
       earlier = rs;
       sound = starts.sound;
-      right = subst (λ h. Right (line_of (with_earlier rs h) w.wire)) (sym starts.started.host) right;
+      right = subst (λ h. Right (line_of (with_earlier rs h) w.wire)) (sym host) right;
       hand = None;
-      account = subst (λ h. Accounted w.kept None (with_earlier rs h) w.wire) (sym starts.started.host) account;
-      begun = subst HasJustBegun (sym starts.started.host) (fresh_begun f);
+      account = subst (λ h. Accounted w.kept None (with_earlier rs h) w.wire) (sym host) account;
+      begun = subst HasJustBegun (sym host) (fresh_begun f hd);
       book = λ live. starts.book;
       holds = subst (λ s. Holds w.kept None (with_earlier rs starts.m.host) s) (sym starts.started.stage) refl;
     }))
@@ -311,7 +333,8 @@ puts laws w new most known v =
       right = moved_right laws p.earlier h w.wire count within p.sound p.right;
       hand = p.hand;
       account = record {
-        keeps = on_keeps w.kept p.hand (with_earlier p.earlier h) (with_earlier p.earlier (taken_out h count)) (moved_on p.earlier h w.wire count within) p.account.keeps;
+        keeps = on_keeps w.kept p.hand (with_earlier p.earlier h) (with_earlier p.earlier (taken_out h count)) (moved_on p.earlier h w.wire count within)
+            (record { since = p.account.keeps.since; rose = omega arith }) p.account.keeps;
         late = moved_late laws w.kept p.account.keeps.receipts p.earlier h w.wire count within p.sound p.right p.account.late;
       };
       begun = p.begun;
@@ -327,7 +350,7 @@ breaks laws w new most fewer why known v =
     let within : count ≤ length v.m.host.out = omega (arith, v.count_is, v.taken_is, min-le_right fewer taken, min-le_right most (length v.m.host.out)) in
     let p = parts w v.m v.was known in
     let h : HostView = v.m.host in
-    let (held, hand_is, number, receipt, follows, records, up, reserved, news) = talking_holds v.m w.kept w.wire v.talk v.talks p in
+    let (held, hand_is, number, receipt, follows, records, up, reserved, news, known_so) = talking_holds v.m w.kept w.wire v.talk v.talks p in
     let ended : Ended (stage.Talking v.talk) why (put (stage.Talking v.talk) taken v.m) v.after = subst (λ s. Ended s why (put s taken v.m) v.after) v.talks v.ended in
     let (drops, book, now) = ended in
     let gone : v.after.host ≡ gone_down h = drops.1 up in
@@ -381,65 +404,96 @@ lost_holds (then.GoOn number tried due) why kept h = (refl, tt)
 lost_holds (then.SendNext number due) why kept h = (refl, tt)
 
 -- The entries with one more are accounted for, if it records nothing.
-pub more_account : LineLaws → (kept : List Entry) (e : Entry) (hand : Option Hand) (h : HostView) (w : WireView) → record_of e ≡ None → tries (e ∷ []) ≡ [] → MayFollow kept e
+pub more_account : LineLaws → (kept : List Entry) (e : Entry) (hand : Option Hand) (h : HostView) (w : WireView) → IsPlain e → record_of e ≡ None → tries (e ∷ []) ≡ [] → MayFollow kept e
     → Accounted kept hand h w → Accounted (kept ++ e ∷ []) hand h w
-more_account laws kept e hand h w none untried follows a =
-    record { keeps = entry_keeps kept e hand h none follows a.keeps; late = late_more kept e a.keeps.receipts (line_of h w) a.keeps.ledger untried a.late }
+more_account laws kept e hand h w plain none untried follows a =
+    record { keeps = entry_keeps kept e hand h plain none follows a.keeps; late = late_more kept e a.keeps.receipts (line_of h w) a.keeps.ledger untried a.late }
 
--- The same where it says that a receipt is tried.
-pub tried_late : LineLaws → (kept : List Entry) (hand : Option Hand) (h : HostView) (w : WireView) (due : Due) → Right (line_of h w) → (k : Keeps kept hand h) → IsToSend kept due
-    → LateAnswers kept k.receipts (line_of h w) → LateAnswers (kept ++ entry.Tried due.number (next_free kept + marks_taken due.openings) ∷ []) k.receipts (line_of h w)
-tried_late laws kept hand h w due right k send late =
+-- The same where it says that a receipt is tried, at a host that goes on with what the entries say.
+pub tried_late : LineLaws → (kept : List Entry) (records : List (List Command)) (w : WireView) (due : Due) → Right (line_of (with_earlier records (idle_at (next_free kept) (heard kept))) w) → IsLedger kept
+    → IsToSend kept due → LateAnswers kept records (line_of (with_earlier records (idle_at (next_free kept) (heard kept))) w)
+    → LateAnswers (kept ++ entry.Tried due.number (next_free kept + marks_taken due.openings) ∷ []) records (line_of (with_earlier records (idle_at (next_free kept) (heard kept))) w)
+tried_late laws kept records w due right ledger send late =
     let limit = next_free kept + marks_taken due.openings in
-    late_tried kept due.number limit k.receipts due.receipt (line_of h w) k.ledger send.follows send.first send.receipt
-    (λ few. laws.promise.made (line_of h w) k.receipts (closed_by due.receipt (limit - 1)) (limit - 1) right.trusted
-    (let more = send.follows.1 in omega (arith, k.next, more)) (omega (arith, few)) refl) late
+    let l : LineView = line_of (with_earlier records (idle_at (next_free kept) (heard kept))) w in
+    let more = send.follows.1 in
+    let few = send.follows.2 in
+    late_tried kept due.number limit records due.receipt l ledger send.follows send.first send.receipt
+    (laws.promise.made l records (closed_by due.receipt (limit - 1)) (limit - 1) right.trusted (omega (arith, more)) (omega (arith, more, few)) refl) late
+
+-- And at the host that was there, which has no link.
+pub tried_down : LineLaws → (kept : List Entry) (hand : Option Hand) (earlier : List (List Command)) (h : HostView) (w : WireView) (due : Due) → IsSound h → h.phase ≡ Down
+    → Right (line_of (with_earlier earlier h) w) → (k : Keeps kept hand (with_earlier earlier h)) → IsToSend kept due
+    → LateAnswers kept k.receipts (line_of (with_earlier earlier h) w)
+    → LateAnswers (kept ++ entry.Tried due.number (next_free kept + marks_taken due.openings) ∷ []) k.receipts (line_of (with_earlier earlier h) w)
+tried_down laws kept hand earlier h w due sound down right k send late =
+    let f : ℕ = next_free kept in
+    let hd : ℕ = heard kept in
+    let idle_right = fresh_right laws earlier h w kept hand f hd down right k k.next (may_know kept (with_earlier earlier h) f k.knows k.most) in
+    late_host (kept ++ entry.Tried due.number (f + marks_taken due.openings) ∷ []) k.receipts (with_earlier k.receipts (idle_at f hd)) (with_earlier earlier h) w
+    (sound.quiet down).1 (sound.quiet down).0
+    (tried_late laws kept k.receipts w due idle_right k.ledger send (late_fresh kept k.receipts earlier k.receipts h w f hd sound down late))
 
 -- The same of the next receipt, which is sent over the link that there is.
 pub next_late : LineLaws → (kept : List Entry) (hand : Option Hand) (h : HostView) (w : WireView) (due : Due) (tried : Entry) → Right (line_of h w) → (k : Keeps kept hand h) → IsToSendNext kept h due tried
     → LateAnswers kept k.receipts (line_of h w) → LateAnswers (kept ++ entry.Tried due.number (next_free kept + 1) ∷ []) k.receipts (line_of h w)
 next_late laws kept hand h w due tried right k send late =
     let limit : ℕ = next_free kept + 1 in
+    let within = mark_within kept h (next_free kept) k.knows send.within (omega (arith, send.marks)) in
     late_tried kept due.number limit k.receipts due.receipt (line_of h w) k.ledger (subst (MayFollow kept) send.tried_is send.follows) send.first send.receipt
-    (λ few. laws.promise.made (line_of h w) k.receipts (closed_by due.receipt (limit - 1)) (limit - 1) right.trusted (omega (arith, k.next)) (omega (arith, few)) refl) late
+    (laws.promise.made (line_of h w) k.receipts (closed_by due.receipt (limit - 1)) (limit - 1) right.trusted (omega (arith, k.next)) (omega (arith, within)) refl) late
 
 -- An entry that comes before that of a receipt says neither a record nor a try.
 pub first_records_none : (e : Entry) (content : Content) → Suits (then.Take content) e → record_of e ≡ None
 first_records_none (entry.Key key) content suits = refl
-first_records_none (entry.Raised next) content suits = refl
+first_records_none (entry.Raised next hd) content suits = refl
 first_records_none (entry.Queued c) content suits = absurd suits
 first_records_none (entry.Tried n next) content suits = absurd suits
-first_records_none (entry.Recorded n) content suits = absurd suits
+first_records_none (entry.Recorded n hd) content suits = absurd suits
 first_records_none (entry.Cancelled n) content suits = absurd suits
-first_records_none (entry.Renewed last) content suits = absurd suits
+first_records_none (entry.Renewed last hd) content suits = absurd suits
 first_records_none (entry.Earlier k key) content suits = absurd suits
 
 pub first_tries_none : (e : Entry) (content : Content) → Suits (then.Take content) e → tries (e ∷ []) ≡ []
 first_tries_none (entry.Key key) content suits = refl
-first_tries_none (entry.Raised next) content suits = refl
+first_tries_none (entry.Raised next hd) content suits = refl
 first_tries_none (entry.Queued c) content suits = absurd suits
 first_tries_none (entry.Tried n next) content suits = absurd suits
-first_tries_none (entry.Recorded n) content suits = absurd suits
+first_tries_none (entry.Recorded n hd) content suits = absurd suits
 first_tries_none (entry.Cancelled n) content suits = absurd suits
-first_tries_none (entry.Renewed last) content suits = absurd suits
+first_tries_none (entry.Renewed last hd) content suits = absurd suits
 first_tries_none (entry.Earlier k key) content suits = absurd suits
+
+pub first_plain : (e : Entry) (content : Content) → Suits (then.Take content) e → IsPlain e
+first_plain (entry.Key key) content suits = tt
+first_plain (entry.Raised next hd) content suits = tt
+first_plain (entry.Queued c) content suits = absurd suits
+first_plain (entry.Tried n next) content suits = absurd suits
+first_plain (entry.Recorded n hd) content suits = absurd suits
+first_plain (entry.Cancelled n) content suits = absurd suits
+first_plain (entry.Renewed last hd) content suits = absurd suits
+first_plain (entry.Earlier k key) content suits = absurd suits
 
 -- A receipt that is answered is recorded, and its host has given its link up.
 recorded_account : LineLaws → (kept : List Entry) (e : Entry) (number : ℕ) (hand : Option Hand) (earlier : List (List Command)) (h h' : HostView) (w new : WireView)
     → Accounted kept hand (with_earlier earlier h) w → MayFollow kept e → IsToRecord kept hand (with_earlier earlier h) e number → Drops h h'
     → Accounted (kept ++ e ∷ []) None (with_earlier earlier h') new
-recorded_account laws kept e number hand earlier h h' w new a follows (held, hand_is, same, recorded_is, more, up) drops =
-    let is : e ≡ entry.Recorded held.number = recorded_is ∙ ap entry.Recorded (sym same) in
+recorded_account laws kept e number hand earlier h h' w new a follows (held, hand_is, same, (hd, recorded_is, some_heard, heard_so), more, up) drops =
+    let is : e ≡ entry.Recorded held.number hd = recorded_is ∙ ap (λ k. entry.Recorded k hd) (sym same) in
     let b : Accounted kept (Some held) (with_earlier earlier h) w = subst (λ v. Accounted kept v (with_earlier earlier h) w) hand_is a in
     let reserved = b.keeps.in_hand.reserved in
-    let so : MayFollow kept (entry.Recorded held.number) = subst (MayFollow kept) is follows in
+    let so : MayFollow kept (entry.Recorded held.number hd) = subst (MayFollow kept) is follows in
     let hung = drops_hung earlier h h' drops in
     subst (λ v. Accounted (kept ++ e ∷ []) None v new) (sym hung)
     (subst (λ x. Accounted (kept ++ x ∷ []) None (hung_up h.phase (with_earlier earlier h)) new) (sym is) (record {
-      keeps = record_keeps kept held (with_earlier earlier h) so more b.keeps;
-      late = late_recorded kept held.number (held.limit - 1) b.keeps.receipts (line_of (with_earlier earlier h) w) _ (line_of (hung_up h.phase (with_earlier earlier h)) new) b.keeps.ledger so.0
+      keeps = record_keeps kept held hd (with_earlier earlier h) so some_heard heard_so more b.keeps;
+      late = late_recorded kept held.number hd (held.limit - 1) b.keeps.receipts (line_of (with_earlier earlier h) w) _ (line_of (hung_up h.phase (with_earlier earlier h)) new) b.keeps.ledger so.0
           (has_tried kept reserved.before reserved.following held.number held.limit reserved.entries_are) b.late;
     }))
+
+down_in_hand : (kept : List Entry) (hand : Option Hand) (h : HostView) → hand ≡ None → Keeps kept hand h → h.phase ≡ Down
+down_in_hand kept None h none k = k.in_hand
+down_in_hand kept (Some held) h none k = absurd (let bad : Some held ≡ None = none in cc)
 
 -- The entries with that one are kept by a host that has given its link up.
 pub stored_account : LineLaws → (kept : List Entry) (e : Entry) (next : Then) (hand : Option Hand) (earlier : List (List Command)) (h h' : HostView) (w new : WireView) → IsSound h
@@ -447,21 +501,21 @@ pub stored_account : LineLaws → (kept : List Entry) (e : Entry) (next : Then) 
     → MayFollow kept e → IsToKeep kept hand (with_earlier earlier h) e next → Drops h h' → Accounted (kept ++ e ∷ []) None (with_earlier earlier h') new
 stored_account laws kept e then.Queued hand earlier h h' w new sound wired right a follows (none, content, is) drops =
     gone_account laws earlier h h' (kept ++ e ∷ []) hand w new sound drops wired right
-    (more_account laws kept e hand (with_earlier earlier h) w (ap record_of is) (ap (λ x. tries (x ∷ [])) is) follows a)
+    (more_account laws kept e hand (with_earlier earlier h) w (subst IsPlain (sym is) tt) (ap record_of is) (ap (λ x. tries (x ∷ [])) is) follows a)
 stored_account laws kept e (then.Take content) hand earlier h h' w new sound wired right a follows (none, suits) drops =
     gone_account laws earlier h h' (kept ++ e ∷ []) hand w new sound drops wired right
-    (more_account laws kept e hand (with_earlier earlier h) w (first_records_none e content suits) (first_tries_none e content suits) follows a)
-stored_account laws kept e then.Raised hand earlier h h' w new sound wired right a follows (none, first, is) drops =
+    (more_account laws kept e hand (with_earlier earlier h) w (first_plain e content suits) (first_records_none e content suits) (first_tries_none e content suits) follows a)
+stored_account laws kept e then.Raised hand earlier h h' w new sound wired right a follows (none, first, hd, is) drops =
     gone_account laws earlier h h' (kept ++ e ∷ []) hand w new sound drops wired right
-    (more_account laws kept e hand (with_earlier earlier h) w (ap record_of is) (ap (λ x. tries (x ∷ [])) is) follows a)
+    (more_account laws kept e hand (with_earlier earlier h) w (subst IsPlain (sym is) tt) (ap record_of is) (ap (λ x. tries (x ∷ [])) is) follows a)
 stored_account laws kept e (then.Cancelled number tried) hand earlier h h' w new sound wired right a follows (none, is, times) drops =
     gone_account laws earlier h h' (kept ++ e ∷ []) hand w new sound drops wired right
-    (more_account laws kept e hand (with_earlier earlier h) w (ap record_of is) (ap (λ x. tries (x ∷ [])) is) follows a)
+    (more_account laws kept e hand (with_earlier earlier h) w (subst IsPlain (sym is) tt) (ap record_of is) (ap (λ x. tries (x ∷ [])) is) follows a)
 stored_account laws kept e (then.Send due) hand earlier h h' w new sound wired right a follows (none, send, is) drops =
     gone_account laws earlier h h' (kept ++ e ∷ []) hand w new sound drops wired right (record {
-      keeps = entry_keeps kept e hand (with_earlier earlier h) (ap record_of is) follows a.keeps;
+      keeps = entry_keeps kept e hand (with_earlier earlier h) (subst IsPlain (sym is) tt) (ap record_of is) follows a.keeps;
       late = subst (λ x. LateAnswers (kept ++ x ∷ []) a.keeps.receipts (line_of (with_earlier earlier h) w)) (sym is)
-          (tried_late laws kept hand (with_earlier earlier h) w due right a.keeps send a.late);
+          (tried_down laws kept hand earlier h w due sound (down_in_hand kept hand (with_earlier earlier h) none a.keeps) right a.keeps send a.late);
     })
 stored_account laws kept e (then.Recorded number) hand earlier h h' w new sound wired right a follows to_record drops =
     recorded_account laws kept e number hand earlier h h' w new a follows to_record drops
@@ -469,7 +523,7 @@ stored_account laws kept e (then.GoOn number tried due) hand earlier h h' w new 
     recorded_account laws kept e number hand earlier h h' w new a follows to_record drops
 stored_account laws kept e (then.SendNext number due) hand earlier h h' w new sound wired right a follows (held, hand_is, all, send, so) drops =
     gone_account laws earlier h h' (kept ++ e ∷ []) hand w new sound drops wired right (record {
-      keeps = entry_keeps kept e hand (with_earlier earlier h) (ap record_of send.tried_is) follows a.keeps;
+      keeps = entry_keeps kept e hand (with_earlier earlier h) (subst IsPlain (sym send.tried_is) tt) (ap record_of send.tried_is) follows a.keeps;
       late = subst (λ x. LateAnswers (kept ++ x ∷ []) a.keeps.receipts (line_of (with_earlier earlier h) w)) (sym send.tried_is)
           (next_late laws kept hand (with_earlier earlier h) w due e right a.keeps send a.late);
     })
@@ -505,11 +559,13 @@ both_account laws kept e f (then.GoOn number tried due) hand earlier h h' w new 
     let limit : ℕ = next_free more + 1 in
     let this : Entry = entry.Tried due.number limit in
     let may : MayFollow more this = subst (MayFollow more) send.tried_is send.follows in
+    let next : h'.next ≡ h.next = ap (λ v. v.next) (drops_hung earlier h h' drops) ∙ hung_next h.phase (with_earlier earlier h) in
+    let within = mark_within more (with_earlier earlier h') (next_free more) first.keeps.knows send.within (omega (arith, next, send.marks)) in
     let late : LateAnswers (more ++ this ∷ []) first.keeps.receipts (line_of (with_earlier earlier h') new) =
     late_tried more due.number limit first.keeps.receipts due.receipt (line_of (with_earlier earlier h') new) first.keeps.ledger may send.first send.receipt
-    (λ few. laws.promise.made (line_of (with_earlier earlier h') new) first.keeps.receipts (closed_by due.receipt (limit - 1)) (limit - 1) gone.trusted
-    (omega (arith, first.keeps.next)) (omega (arith, few)) refl) first.late in
-    let both : Accounted (more ++ this ∷ []) None (with_earlier earlier h') new = record { keeps = entry_keeps more this None (with_earlier earlier h') refl may first.keeps; late = late } in (
+    (laws.promise.made (line_of (with_earlier earlier h') new) first.keeps.receipts (closed_by due.receipt (limit - 1)) (limit - 1) gone.trusted
+    (omega (arith, first.keeps.next)) (omega (arith, within)) refl) first.late in
+    let both : Accounted (more ++ this ∷ []) None (with_earlier earlier h') new = record { keeps = entry_keeps more this None (with_earlier earlier h') tt refl may first.keeps; late = late } in (
       subst (λ es. Accounted es None (with_earlier earlier h') new) (append_assoc kept (e ∷ []) (f ∷ []))
           (subst (λ x. Accounted (more ++ x ∷ []) None (with_earlier earlier h') new) (sym send.tried_is ∙ same) both),
       subst (MayFollow more) same send.follows,

@@ -1,20 +1,18 @@
 -- What holds of every world holds after whatever happens in it.
-use Rattle.std.proofs.Common.{ℕ, ◌≡◌, ◌≤◌, None, List, [], ◌∷◌, ◌++◌, length, take, refl, sym, ◌∙◌, ap, subst, append-nil, append_assoc, arith}
+use Rattle.std.proofs.Common.{ℕ, ◌≡◌, ◌≤◌, ◌⊎◌, inl, inr, None, List, [], ◌∷◌, ◌++◌, length, take, refl, sym, ◌∙◌, ap, subst, append-nil, append_assoc, arith}
 use Rattle.std.proofs.lemmas.List.{take_all}
 use Rattle.escpos_command.specs.declared.command.Command.{Command}
 use Rattle.escpos_host.specs.Earlier.{with_earlier}
 use Rattle.escpos_host.specs.Machine.{HostView, Down}
 use Rattle.escpos_link.specs.Line.{IsLine, LineView}
-use Rattle.escpos_link.specs.Resumed.{resumed, resumed_host}
+use Rattle.escpos_link.specs.Resumed.{resumed_from}
 use Rattle.escpos_link.specs.Trusted.{IsTrusted}
 use Rattle.escpos_link.specs.Wire.{given_up, line_of, wire_of}
 use Rattle.escpos_link.specs.Stands.{Stands}
-use Rattle.escpos_link.proofs.Happening.{resumed_kept}
 use Rattle.escpos_link.proofs.Standing.{stands_front}
 use Rattle.escpos_till.specs.declared.entry.Entry.{Entry}
-use Rattle.escpos_till.specs.Entries.{IsLedger, next_free, recorded}
+use Rattle.escpos_till.specs.Entries.{IsLedger, heard, next_free, recorded}
 use Rattle.escpos_till.specs.declared.entry.Entry.TheVariants as entry
-use Rattle.escpos_till.specs.Delivers.{fresh}
 use Rattle.escpos_till.proofs.EntryLemmas.{empty_ledger, ledger-snoc}
 use Rattle.escpos_till_model.specs.Receipts.{AreReceipts, Extends, IsReceiptOf, RecordedStand}
 use Rattle.escpos_till_model.specs.Late.{LateAnswers}
@@ -23,6 +21,7 @@ use Rattle.escpos_till_model.specs.World.{Begins, Happens, Runs, World}
 use Rattle.escpos_till_model.specs.declared.event.Happening.{Happening}
 use Rattle.escpos_till_model.specs.declared.event.Happening.TheVariants as event
 use Rattle.escpos_till_model.specs.declared.event.Happening.TheVariants.{Break, Cancel, Connect, Crash, Deliver, End, FailWith, FailWithout, HangUp, Hear, Idle, Keep, Miss, OnWire, Put, Queue, Raise, Refuse, Start, Tell}
+use Rattle.escpos_till_model.proofs.HeardLemmas.{MayKnow, idle_at, may_know}
 use Rattle.escpos_till_model.proofs.LateLemmas.{late_fresh, late_off}
 use Rattle.escpos_till_model.proofs.LinesKept.{LineLaws, Right, none_given_up}
 use Rattle.escpos_till_model.proofs.EntryFacts.{among_nothing, zip_length}
@@ -124,27 +123,39 @@ begun laws w b =
     let same : count ≡ length records = zip_length (IsReceiptOf w.kept) (recorded w.kept) records b.receipts in
     let within : length records ≤ length records = omega arith in
     let all : take count records ≡ records ++ [] = ap (λ n. take n records) same ∙ take_all (length records) records within ∙ sym (append-nil records) in
-    let host : anew b.line.host f count ≡ with_earlier records (fresh f) =
-    ap (λ rs. record { phase = Down; out = []; half = []; next = f; heard = 0; records = rs; left = [] }) all in
-    let left : Right (line_of (anew b.line.host f count) (given_up (wire_of b.line))) =
-    anew_right laws b.line f count b.next (record { line = b.is_line; trusted = b.trusted }) in
-    let right : Right (line_of (with_earlier records (fresh f)) w.wire) =
-    subst (λ v. Right (line_of (with_earlier records (fresh f)) v)) (sym b.wire_is) (subst (λ h. Right (line_of h (given_up (wire_of b.line)))) host left) in
+    let hd : ℕ = heard w.kept in
+    let host : anew b.line.host f count hd ≡ with_earlier records (idle_at f hd) =
+    ap (λ rs. record { phase = Down; out = []; half = []; next = f; heard = hd; records = rs; left = [] }) all in
+    let left : Right (line_of (anew b.line.host f count hd) (given_up (wire_of b.line))) =
+    anew_right laws b.line f count hd b.next (may_know w.kept b.line.host f b.knows b.most) (record { line = b.is_line; trusted = b.trusted }) in
+    let right : Right (line_of (with_earlier records (idle_at f hd)) w.wire) =
+    subst (λ v. Right (line_of (with_earlier records (idle_at f hd)) v)) (sym b.wire_is) (subst (λ h. Right (line_of h (given_up (wire_of b.line)))) host left) in
     record {
       earlier = records;
-      host = fresh f;
-      host_is = subst (λ x. IsHostOf x (fresh f)) (sym b.off) refl;
-      sound = fresh_sound f;
+      host = idle_at f hd;
+      host_is = subst (λ x. IsHostOf x (idle_at f hd)) (sym b.off) refl;
+      sound = fresh_sound f hd;
       line = right.line;
       trusted = right.trusted;
       hand = None;
       account = record {
-        keeps = record { ledger = b.ledger; receipts = records; are = b.receipts; answered = []; records = refl; next = omega arith; in_hand = refl };
-        late = subst (λ v. LateAnswers w.kept records (line_of (with_earlier records (fresh f)) v)) (sym b.wire_is)
-            (late_off laws w.kept records b.line (with_earlier records (fresh f)) refl b.late);
+        keeps = record {
+          ledger = b.ledger;
+          receipts = records;
+          are = b.receipts;
+          answered = [];
+          records = refl;
+          next = omega arith;
+          in_hand = refl;
+          knows = inl (omega arith);
+          most = b.most;
+          since = b.most;
+        };
+        late = subst (λ v. LateAnswers w.kept records (line_of (with_earlier records (idle_at f hd)) v)) (sym b.wire_is)
+            (late_off laws w.kept records b.line (with_earlier records (idle_at f hd)) refl b.late);
       };
-      begun = fresh_begun f;
-      machine = subst (λ x. IsMachineIn x w.kept None (with_earlier records (fresh f))) (sym b.off) refl;
+      begun = fresh_begun f hd;
+      machine = subst (λ x. IsMachineIn x w.kept None (with_earlier records (idle_at f hd))) (sym b.off) refl;
       told = b.told;
     }
 
@@ -153,9 +164,12 @@ pub begins_again : LineLaws → (w : World) → w.machine ≡ None → IsWorld w
 begins_again laws w off known =
     let down : known.host.phase ≡ Down = subst (λ x. IsHostOf x known.host) off known.host_is in
     let a = known.account in
-    let host : HostView = with_earlier a.keeps.receipts (fresh (next_free w.kept)) in
+    let f : ℕ = next_free w.kept in
+    let hd : ℕ = heard w.kept in
+    let host : HostView = with_earlier a.keeps.receipts (idle_at f hd) in
     let right : Right (line_of host w.wire) =
-    fresh_right laws known.earlier known.host w.wire w.kept known.hand (next_free w.kept) down (record { line = known.line; trusted = known.trusted }) a.keeps a.keeps.next in
+    fresh_right laws known.earlier known.host w.wire w.kept known.hand f hd down (record { line = known.line; trusted = known.trusted }) a.keeps a.keeps.next
+    (may_know w.kept (with_earlier known.earlier known.host) f a.keeps.knows a.keeps.most) in
     record {
       off = off;
       ledger = a.keeps.ledger;
@@ -164,27 +178,43 @@ begins_again laws w off known =
       trusted = right.trusted;
       receipts = subst (λ rs. AreReceipts w.kept rs) (sym (append-nil a.keeps.receipts)) a.keeps.are;
       late = subst (λ rs. LateAnswers w.kept rs (line_of host w.wire)) (sym (append-nil a.keeps.receipts))
-          (late_fresh w.kept a.keeps.receipts known.earlier a.keeps.receipts known.host w.wire (next_free w.kept) known.sound down a.late);
+          (late_fresh w.kept a.keeps.receipts known.earlier a.keeps.receipts known.host w.wire f hd known.sound down a.late);
       next = omega arith;
+      knows = inl (omega arith);
+      most = a.keeps.most;
       wire_is = sym (none_given_up host w.wire refl right.line);
       told = known.told;
     }
 
-pub raised_ledger : (n : ℕ) → IsLedger (entry.Raised n ∷ [])
-raised_ledger n = ledger-snoc [] (entry.Raised n) empty_ledger (omega arith)
+-- What a new ledger says of marks is so: nothing, or that all marks of the line's host are answered.
+abbrev pub MayBegin : HostView → ℕ → ℕ → Type 0
+MayBegin h n hd = (hd ≡ 0) ⊎ ((hd ≡ n) × (h.next ≤ h.heard))
+
+pub raised_ledger : (n hd : ℕ) → (hd ≡ 0) ⊎ (hd ≡ n) → IsLedger (entry.Raised n hd ∷ [])
+raised_ledger n hd says = ledger-snoc [] (entry.Raised n hd) empty_ledger (omega arith, elim says [ inl none ↦ inl none | inr all ↦ inr (all, refl) ])
+
+said_so : (h : HostView) (n hd : ℕ) → MayBegin h n hd → (hd ≡ 0) ⊎ (hd ≡ n)
+said_so h n hd (inl none) = inl none
+said_so h n hd (inr (all, answered)) = inr all
 
 -- A new ledger has raised the next number to one that this line hasn't used: the line goes on as if it had recorded nothing.
-pub first_world : LineLaws → (l : LineView) (n : ℕ) → IsLine l → IsTrusted l → l.host.next ≤ n
-    → Begins (record { machine = None; kept = entry.Raised n ∷ []; wire = given_up (wire_of l); told = [] })
-first_world laws l n line trusted within = record {
-  off = refl;
-  ledger = raised_ledger n;
-  line = resumed l n 0;
-  is_line = resumed_kept l n 0 line;
-  trusted = (laws.trust.resumes l n 0 within trusted).0;
-  receipts = tt;
-  late = record { first = λ number closing waits has. absurd has; promise = λ number closing waits has. absurd has };
-  next = omega arith;
-  told = λ n among. absurd (among_nothing n among);
-  wire_is = sym (none_given_up (resumed_host l.host n 0) (wire_of (resumed l n 0)) refl (resumed_kept l n 0 line));
-}
+pub first_world : LineLaws → (l : LineView) (n hd : ℕ) → IsLine l → IsTrusted l → l.host.next ≤ n → MayBegin l.host n hd
+    → Begins (record { machine = None; kept = entry.Raised n hd ∷ []; wire = given_up (wire_of l); told = [] })
+first_world laws l n hd line trusted within says =
+    let within_so : hd ≤ n = elim says [ inl none ↦ omega (arith, none) | inr all ↦ omega (arith, all.0) ] in
+    let may : MayKnow l.host n hd = elim says [ inl none ↦ inl (omega (arith, none)) | inr all ↦ inr (all.1, omega (arith, all.0)) ] in
+    let right = anew_right laws l n 0 hd within may (record { line = line; trusted = trusted }) in
+    record {
+      off = refl;
+      ledger = raised_ledger n hd (said_so l.host n hd says);
+      line = resumed_from l n 0 hd;
+      is_line = right.line;
+      trusted = right.trusted;
+      receipts = tt;
+      late = record { first = λ number closing waits has. absurd has; promise = λ number closing waits has. absurd has };
+      next = omega arith;
+      knows = inl (omega arith);
+      most = omega (arith, within_so);
+      told = λ n among. absurd (among_nothing n among);
+      wire_is = sym (none_given_up (anew l.host n 0 hd) (wire_of (resumed_from l n 0 hd)) refl right.line);
+    }

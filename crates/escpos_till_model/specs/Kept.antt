@@ -2,11 +2,12 @@
 -- proofs alone.
 use Rattle.std.specs.Prelude.{ℕ, ◌≡◌, ◌⊎◌, ◌≤◌, List, [], ◌∷◌, ◌++◌, Option, Some, None}
 use Rattle.escpos_command.specs.declared.command.Command.{Command}
-use Rattle.escpos_command.specs.Digits.{mark_count}
-use Rattle.escpos_host.specs.Machine.{Down, HostView, in_flight}
+use Rattle.escpos_host.specs.Machine.{Down, HostView, Open, Opening, Phase, in_flight, limit_from}
+use Rattle.escpos_link.specs.Ways.{Rising}
 use Rattle.escpos_till.specs.declared.entry.Entry.{Entry}
 use Rattle.escpos_till.specs.declared.entry.Entry.TheVariants as entry
-use Rattle.escpos_till.specs.Entries.{IsLedger, next_free}
+use Rattle.escpos_till.specs.Entries.{IsLedger, heard, next_free}
+use Rattle.escpos_till_model.specs.Late.{IsHeardBy}
 use Rattle.escpos_till_model.specs.Receipts.{AreReceipts, IsReceiptOf}
 
 -- A receipt that is being sent: it is kept that it is tried, and not that it is recorded. What is sent of it is here until the host has it;
@@ -17,14 +18,14 @@ pub record Hand : Type 0 where
   pub limit : ℕ
 
 -- An entry has reserved the numbers from this one up to the limit for the receipt with this number. Each of them was free
--- before that entry, and each has an id of its own.
+-- before that entry, and none of them has the id of a mark that could still be answered then.
 pub record Reserves (entries : List Entry) (number mark limit : ℕ) : Type 0 where
   pub before : List Entry
   pub following : List Entry
   pub entries_are : entries ≡ before ++ entry.Tried number limit ∷ following
   pub from : next_free before ≤ mark
   pub to : mark ≤ limit
-  pub few : limit ≤ mark_count
+  pub few : limit ≤ limit_from (heard before)
 
 -- These were sent of the receipt in hand, with this number: nothing while the till has its commands; after that the
 -- commands, once, unless the link was lost.
@@ -42,8 +43,14 @@ abbrev pub IsInHand : List Entry → Option Hand → List (List Command) → Hos
 IsInHand entries None answered h = h.phase ≡ Down
 IsInHand entries (Some hand) answered h = HasInHand entries hand answered h
 
+-- What a host has heard is below its own marks that aren't answered yet, and no higher than its next one.
+abbrev pub IsSince : Phase → ℕ → ℕ → Type 0
+IsSince Down heard next = heard ≤ next
+IsSince (Opening first) heard next = (heard ≤ first) × (first ≤ next)
+IsSince (Open flight) heard next = Rising heard flight next
+
 -- The host's records are the receipts of what is recorded, and then those that are answered and aren't recorded yet. Its next
--- mark number is no higher than the first that is free.
+-- mark number is no higher than the first that is free. What the entries say of marks that can't be answered is so.
 pub record Keeps (entries : List Entry) (hand : Option Hand) (h : HostView) : Type 0 where
   pub ledger : IsLedger entries
   pub receipts : List (List Command)
@@ -52,3 +59,6 @@ pub record Keeps (entries : List Entry) (hand : Option Hand) (h : HostView) : Ty
   pub records : h.records ≡ receipts ++ answered
   pub next : h.next ≤ next_free entries
   pub in_hand : IsInHand entries hand answered h
+  pub knows : IsHeardBy entries h
+  pub most : heard entries ≤ next_free entries
+  pub since : IsSince h.phase h.heard h.next

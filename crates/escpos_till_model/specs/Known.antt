@@ -2,9 +2,8 @@
 -- proofs alone.
 use Rattle.std.specs.Prelude.{ℕ, ◌≡◌, ◌≢◌, ◌≤◌, ◌<◌, ◌+◌, Option, Some, None, List, [], ◌∷◌, ◌++◌, length}
 use Rattle.escpos_command.specs.declared.command.Command.{Command}
-use Rattle.escpos_command.specs.Digits.{mark_count}
 use Rattle.escpos_host.specs.Earlier.{with_earlier}
-use Rattle.escpos_host.specs.Machine.{HostView, Down, IsSound, Open}
+use Rattle.escpos_host.specs.Machine.{HostView, Down, IsSound, Open, limit_from}
 use Rattle.escpos_link.specs.Line.{IsLine}
 use Rattle.escpos_link.specs.Trusted.{IsTrusted}
 use Rattle.escpos_link.specs.Wire.{WireView, line_of}
@@ -20,7 +19,7 @@ use Rattle.escpos_till.specs.declared.machine.TillNote.{TillNote}
 use Rattle.escpos_till.specs.declared.machine.TillNote.TheVariants as note
 use Rattle.escpos_till.specs.Book.{IsBookOf}
 use Rattle.escpos_till.specs.Delivers.{marks_taken}
-use Rattle.escpos_till.specs.Entries.{MayFollow, Waits, next_free, recorded, times_tried}
+use Rattle.escpos_till.specs.Entries.{MayFollow, Waits, heard, next_free, recorded, times_tried}
 use Rattle.escpos_till.specs.Machine.{MachineView, Suits}
 use Rattle.escpos_till_model.specs.Kept.{Hand, Keeps}
 use Rattle.escpos_till_model.specs.Late.{HasJustBegun, LateAnswers}
@@ -43,16 +42,16 @@ BookMayLag s = ⊥
 -- The receipt, the first that waits, may be sent with numbers from the next one on.
 pub record IsToSend (kept : List Entry) (due : Due) : Type 0 where
   pub receipt : IsReceiptOf kept due.number due.receipt
-  pub within : next_free kept + marks_taken due.openings ≤ mark_count
+  pub within : next_free kept + marks_taken due.openings ≤ limit_from (heard kept)
   pub fits : IsSendable due.receipt
   pub follows : MayFollow kept (entry.Tried due.number (next_free kept + marks_taken due.openings))
   pub first : (k : ℕ) → Waits kept k → due.number ≤ k
 
--- A receipt is answered, and that is to be kept.
+-- A receipt is answered, and that is to be kept, with what the host has heard.
 abbrev pub IsToRecord : List Entry → Option Hand → HostView → Entry → ℕ → Type 0
 IsToRecord kept hand h e number =
-    (held : Hand) × (hand ≡ Some held) × (held.number ≡ number) × (e ≡ entry.Recorded number) × (length (recorded kept) < length h.records)
-    × (h.phase ≢ Down)
+    (held : Hand) × (hand ≡ Some held) × (held.number ≡ number) × ((hd : ℕ) × (e ≡ entry.Recorded number hd) × (0 < hd) × (hd ≤ h.heard))
+    × (length (recorded kept) < length h.records) × (h.phase ≢ Down)
 
 -- The next receipt, the first that waits, may be sent over the host's link, with the next number for its closing mark.
 pub record IsToSendNext (kept : List Entry) (h : HostView) (due : Due) (tried : Entry) : Type 0 where
@@ -61,7 +60,7 @@ pub record IsToSendNext (kept : List Entry) (h : HostView) (due : Due) (tried : 
   pub tried_is : tried ≡ entry.Tried due.number (next_free kept + 1)
   pub follows : MayFollow kept tried
   pub first : (k : ℕ) → Waits kept k → due.number ≤ k
-  pub within : next_free kept < mark_count
+  pub within : next_free kept < limit_from (heard kept)
   pub link : h.phase ≡ Open []
   pub quiet : h.out ≡ []
   pub marks : h.next ≡ next_free kept
@@ -70,7 +69,7 @@ pub record IsToSendNext (kept : List Entry) (h : HostView) (due : Due) (tried : 
 abbrev pub IsToKeep : List Entry → Option Hand → HostView → Entry → Then → Type 0
 IsToKeep kept hand h e then.Queued = (hand ≡ None) × (content : Content) × (e ≡ entry.Queued content)
 IsToKeep kept hand h e (then.Take content) = (hand ≡ None) × Suits (then.Take content) e
-IsToKeep kept hand h e then.Raised = (hand ≡ None) × (first : ℕ) × (e ≡ entry.Raised first)
+IsToKeep kept hand h e then.Raised = (hand ≡ None) × (first : ℕ) × (hd : ℕ) × (e ≡ entry.Raised first hd)
 IsToKeep kept hand h e (then.Cancelled number tried) = (hand ≡ None) × (e ≡ entry.Cancelled number) × (times_tried kept number ≡ tried)
 IsToKeep kept hand h e (then.Send due) = (hand ≡ None) × IsToSend kept due × (e ≡ entry.Tried due.number (next_free kept + marks_taken due.openings))
 IsToKeep kept hand h e (then.Recorded number) = IsToRecord kept hand h e number
@@ -84,10 +83,10 @@ abbrev pub Holds : List Entry → Option Hand → HostView → Stage → Type 0
 Holds kept hand h (stage.Connecting due) = (hand ≡ None) × IsToSend kept due
 Holds kept hand h (stage.Keeping e next) = MayFollow kept e × IsToKeep kept hand h e next
 Holds kept hand h (stage.Talking talk) =
-    (held : Hand) × (hand ≡ Some held) × (held.number ≡ talk.number) × (held.receipt ≡ talk.receipt) × MayFollow kept (entry.Recorded talk.number)
+    (held : Hand) × (hand ≡ Some held) × (held.number ≡ talk.number) × (held.receipt ≡ talk.receipt) × MayFollow kept (entry.Recorded talk.number 0)
     × (length h.records ≡ length (recorded kept)) × (h.phase ≢ Down)
     × ((receipt : List Command) → talk.receipt ≡ Some receipt → (h.next < held.limit) × IsSendable receipt)
-    × ((number : ℕ) → talk.recorded ≡ Some number → IsSo kept (note.Recorded number))
+    × ((number : ℕ) → talk.recorded ≡ Some number → IsSo kept (note.Recorded number)) × (heard kept ≤ h.heard)
 Holds kept hand h (stage.HangingUp n) = (hand ≡ None) × IsSo kept n
 Holds kept hand h (stage.Telling n) = (hand ≡ None) × IsSo kept n
 Holds kept hand h s = hand ≡ None

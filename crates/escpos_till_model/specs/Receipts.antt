@@ -76,20 +76,20 @@ pub record EachIsKept (entries : List Entry) : Type 0 where
 abbrev pub IsAbout : ℕ → Entry → Type 0
 IsAbout number (entry.Queued content) = ⊥
 IsAbout number (entry.Tried n next) = n ≡ number
-IsAbout number (entry.Recorded n) = n ≡ number
-IsAbout number (entry.Raised next) = ⊥
+IsAbout number (entry.Recorded n h) = n ≡ number
+IsAbout number (entry.Raised next h) = ⊥
 IsAbout number (entry.Cancelled n) = n ≡ number
 IsAbout number (entry.Key key) = ⊥
-IsAbout number (entry.Renewed last) = ⊥
+IsAbout number (entry.Renewed last h) = ⊥
 IsAbout number (entry.Earlier n key) = ⊥
 
 -- By this entry the receipt with this number is recorded or cancelled, and waits no more.
 abbrev pub IsEndOf : ℕ → Entry → Type 0
 IsEndOf number (entry.Queued content) = ⊥
 IsEndOf number (entry.Tried n next) = ⊥
-IsEndOf number (entry.Recorded n) = n ≡ number
-IsEndOf number (entry.Raised next) = ⊥
+IsEndOf number (entry.Recorded n h) = n ≡ number
+IsEndOf number (entry.Raised next h) = ⊥
 IsEndOf number (entry.Cancelled n) = n ≡ number
 IsEndOf number (entry.Key key) = ⊥
-IsEndOf number (entry.Renewed last) = ⊥
+IsEndOf number (entry.Renewed last h) = ⊥
 IsEndOf number (entry.Earlier n key) = ⊥

@@ -32,10 +32,10 @@ use Rattle.escpos_till.specs.declared.machine.TillNote.{TillNote}
 use Rattle.escpos_till.specs.declared.machine.TillNote.TheVariants as note
 use Rattle.escpos_till.specs.Book.{IsBookOf}
 use Rattle.escpos_till.specs.Further.{IsText}
-use Rattle.escpos_till.specs.Entries.{IsLedger, cancelled, last_number, next_free, recorded, times_tried}
+use Rattle.escpos_till.specs.Entries.{IsLedger, cancelled, heard, last_number, next_free, recorded, times_tried}
 use Rattle.escpos_till.specs.Learning.{AreOthers, FailsToLearn, LearnsAll}
 use Rattle.escpos_till.specs.Machine.{Came, Cancels, Delivers, Ended, IsStarted, Kept, MachineView, Queues, Raises, SameEntries, Unsure, connected, entry_with, hung_up, news_of, not_connected, put, told}
-use Rattle.escpos_till_model.specs.Late.{LateAnswers}
+use Rattle.escpos_till_model.specs.Late.{IsHeardBy, LateAnswers}
 use Rattle.escpos_till_model.specs.Receipts.{Among, AreReceipts}
 use Rattle.escpos_till_model.specs.declared.event.Happening.{Happening}
 use Rattle.escpos_till_model.specs.declared.event.Happening.TheVariants as event
@@ -66,7 +66,8 @@ IsSo kept n = Unit {0}
 -- A world may begin so: the till is off, and its store has a ledger, an old one or a new one. The wire is what is left of a line once its
 -- host has given its link up: whatever printer that is, with links that it still reads. That host's records are the receipts that the
 -- ledger has as recorded, and it has used no mark number from the ledger's next one on; what it put for the tries of a receipt that waits
--- proves that it is printed, if it is answered. What the owner was told before is so.
+-- proves that it is printed, if it is answered; and no mark can be answered any more of which the ledger says so. What the owner was told before is
+-- so.
 pub record Begins (w : World) : Type 0 where
   pub off : w.machine ≡ None
   pub ledger : IsLedger w.kept
@@ -76,6 +77,8 @@ pub record Begins (w : World) : Type 0 where
   pub receipts : AreReceipts w.kept line.host.records
   pub late : LateAnswers w.kept line.host.records line
   pub next : line.host.next ≤ next_free w.kept
+  pub knows : IsHeardBy w.kept line.host
+  pub most : heard w.kept ≤ next_free w.kept
   pub wire_is : w.wire ≡ given_up (wire_of line)
   pub told : (n : TillNote) → Among n w.told → IsSo w.kept n
 

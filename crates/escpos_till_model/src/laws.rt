@@ -1,7 +1,7 @@
 //! Proof only: the laws of a ledger's receipts, of a till in the world, and of what a driver did on a real store and a real line. The contract
 //! of each function is the law; when run, it does nothing.
 
-ghost use Rattle.std.specs.Prelude.{ℕ, Bool, ◌≡◌, ◌<◌, ◌≤◌, ◌⊎◌, Option, List, [], ◌∷◌, ◌++◌, None, Some, length};
+ghost use Rattle.std.specs.Prelude.{ℕ, Bool, ◌≡◌, ◌≢◌, ◌<◌, ◌≤◌, ◌⊎◌, Option, List, [], ◌∷◌, ◌++◌, None, Some, length};
 ghost use Rattle.escpos_link.specs.Line.{IsLine, LineView};
 ghost use Rattle.escpos_link.specs.Trusted.{IsTrusted};
 ghost use Rattle.escpos_link.specs.Wire.{WireView, given_up, wire_of};
@@ -13,7 +13,8 @@ ghost use Rattle.escpos_till.specs.declared.machine.TillNote.{TillNote};
 ghost use Rattle.escpos_till.specs.declared.machine.TillNote.TheVariants as note;
 ghost use Rattle.escpos_till.specs.declared.machine.TillRefusal.TheVariants as refusal;
 ghost use Rattle.escpos_till.specs.declared.surroundings.Surroundings.{Surroundings};
-ghost use Rattle.escpos_till.specs.Entries.{HasKey, IsLedger, Taken, cancelled, last_number, next_free, recorded, taken, times_tried, waiting};
+ghost use Rattle.escpos_till.specs.Entries.{HasKey, IsLedger, Taken, cancelled, heard, last_number, next_free, recorded, taken, times_tried, waiting};
+ghost use Rattle.escpos_host.specs.Counted.{id_of};
 ghost use Rattle.escpos_host.specs.Machine.{IsSound};
 ghost use Rattle.escpos_till.specs.Book.{IsBookOf};
 ghost use Rattle.escpos_till.specs.Driver.{Answered, Call, Confirms, Queue, Ran, RanTo, Serves, Tells};
@@ -67,9 +68,9 @@ pub fn what_is_recorded_stands()
     ensures width { (w after : World) (happenings : List Happening) → Begins w → Runs w happenings after
         → after.wire.printer.sheet.line_dots ≡ w.wire.printer.sheet.line_dots }
     ensures begins_again { (w after : World) (happenings : List Happening) → Begins w → Runs w happenings after → after.machine ≡ None → Begins after }
-    ensures begins { (l : LineView) (n : ℕ) → IsLine l → IsTrusted l → l.host.next ≤ n → Begins (record { machine = None; kept = entry.Raised n ∷ []; wire = given_up (wire_of l); told = [] }) }
+    ensures begins { (l : LineView) (n heard : ℕ) → IsLine l → IsTrusted l → l.host.next ≤ n → (heard ≡ 0) ⊎ ((heard ≡ n) × (l.host.next ≤ l.host.heard))
+        → Begins (record { machine = None; kept = entry.Raised n heard ∷ []; wire = given_up (wire_of l); told = [] }) }
 {
-    escpos_command::laws::mark_numbers();
     escpos_host::laws::counted_marks();
     escpos_link::laws::trust();
     escpos_link::laws::promise();
@@ -96,7 +97,6 @@ pub fn what_is_heard_is_not_sent_again()
     ensures { (first w heard after : World) (before happenings : List Happening) (most number : ℕ) → Begins first → Runs first before w → HearsAnswer w most number heard
         → Runs heard happenings after → ¬ IsLostFirst happenings → IsNotTriedAgain number w.kept after.kept }
 {
-    escpos_command::laws::mark_numbers();
     escpos_host::laws::counted_marks();
     escpos_link::laws::trust();
     escpos_link::laws::promise();
@@ -106,16 +106,17 @@ pub fn what_is_heard_is_not_sent_again()
 }
 
 /// What goes out: over every list of happenings each link has mark numbers of its own, which an entry has reserved before. The marks in the
-/// bytes that are put on it have these numbers, each once and in order; so no mark number goes out twice. And no real-time command stands
-/// anywhere in them.
+/// bytes that are put on it have these numbers, each once and in order; so no mark number goes out twice. No id does, while it may be answered:
+/// of the numbers from the one on that the ledger says, no two that are reserved have one id. And no real-time command stands anywhere in them.
 pub fn marks_are_used_once()
     ensures carries { (w after : World) (happenings : List Happening) → Runs w happenings after → (links : List Carried) × Carries w happenings after [] links }
     ensures apart { (w after : World) (happenings : List Happening) (links : List Carried) → Begins w → Carries w happenings after [] links
         → AreApart (next_free w.kept) links (next_free after.kept) }
     ensures own { (w after : World) (happenings : List Happening) (links : List Carried) → Begins w → Carries w happenings after [] links
         → AllByRecursion HasOwnMarks links }
+    ensures ids { (w after : World) (happenings : List Happening) (number limit m n : ℕ) → Begins w → Runs w happenings after → Among (entry.Tried number limit) after.kept
+        → heard after.kept ≤ m → m < n → n < limit → id_of m ≢ id_of n }
 {
-    escpos_command::laws::mark_numbers();
     escpos_host::laws::counted_marks();
     escpos_link::laws::trust();
     escpos_link::laws::promise();
@@ -259,7 +260,6 @@ pub fn a_driver_uses_marks_once<S: Store, L: PrinterLine>()
         (it : IsGivenUp S.faithful S.holds S.leaves S.says L.did world m old call most after new wire) → S.leaves new.store left → UsesMarksOnce world.kept it.gives.runs.run.deeds left }
     ensures both { (low mid high : ℕ) (links others : List Carried) → AreApart low links mid → AreApart mid others high → AreApart low (others ++ links) high }
 {
-    escpos_command::laws::mark_numbers();
     escpos_host::laws::counted_marks();
     escpos_link::laws::fitting();
     every_world();
@@ -285,7 +285,6 @@ pub fn what_is_confirmed_is_recorded<S: Store, L: PrinterLine>()
 pub(crate) fn every_world()
     ensures { (w after : World) (happenings : List Happening) → Begins w → Runs w happenings after → IsWorld after }
 {
-    escpos_command::laws::mark_numbers();
     escpos_host::laws::counted_marks();
     escpos_link::laws::trust();
     escpos_link::laws::promise();

@@ -16,7 +16,13 @@ const NEXT: u32 = 7;
 fn raises(rt: &impl Abort, store: &mut Filed) {
     assert!(rt;
         matches!(
-            store.append(&Entry::Raised { next: NEXT }, None),
+            store.append(
+                &Entry::Raised {
+                    next: NEXT,
+                    heard: 0
+                },
+                None
+            ),
             Ok(Appended::Done)
         )
     );
@@ -30,7 +36,7 @@ fn count_raised<D: Disk + Drop>(
 ) -> usize {
     let entries = store.entries(alloc).expect(rt, "entries");
     for entry in entries.iter() {
-        assert!(rt; matches!(entry, Entry::Raised { next: NEXT }));
+        assert!(rt; matches!(entry, Entry::Raised { next: NEXT, .. }));
     }
     entries.len()
 }

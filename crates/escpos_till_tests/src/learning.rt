@@ -55,7 +55,7 @@ fn ends(rt: &impl Abort, machine: &mut TillMachine, wanted: TillNote) {
 fn a_try_has_other_numbers(rt: HostRuntime) {
     let mut machine = tries(&rt, rt.alloc());
     let others = [
-        Entry::Raised { next: 7 },
+        Entry::Raised { next: 7, heard: 0 },
         Entry::Key {
             key: key(&rt, b"sale-7"),
         },
@@ -83,7 +83,10 @@ fn a_try_is_cancelled(rt: HostRuntime) {
 #[test]
 fn a_try_has_no_numbers_left(rt: HostRuntime) {
     let mut machine = tries(&rt, rt.alloc());
-    let others = [Entry::Raised { next: 1_679_615 }];
+    let others = [Entry::Raised {
+        next: 1_679_615,
+        heard: 0,
+    }];
     assert!(&rt; machine.learned(&others) == Ok(()));
     let told = TillNote::Waiting {
         number: number(&rt, 1),
@@ -98,6 +101,7 @@ fn a_record_of_others_fails(rt: HostRuntime) {
     let mut machine = tries(&rt, rt.alloc());
     let others = [Entry::Recorded {
         number: number(&rt, 1),
+        heard: 0,
     }];
     assert!(&rt; machine.learned(&others) == Err(StoreFault::Failed));
     ends(&rt, &mut machine, TillNote::NotKept(StoreFault::Failed));
@@ -107,7 +111,7 @@ fn a_record_of_others_fails(rt: HostRuntime) {
 #[test]
 fn only_a_delivery_learns(rt: HostRuntime) {
     let mut machine = machine_of(&rt, rt.alloc(), &[]);
-    let others = [Entry::Raised { next: 7 }];
+    let others = [Entry::Raised { next: 7, heard: 0 }];
     assert!(&rt; machine.learned(&others) == Ok(()));
     assert!(&rt; machine.next_mark() == 0);
     if let Err((_, _receipt)) = machine.queue(receipt(&rt, rt.alloc(), S.0), None) {
@@ -136,7 +140,7 @@ fn found_since_then(rt: HostRuntime) {
     found_since(&rt, alloc, &[taken(&rt, alloc)], Some(0));
     found_since(&rt, alloc, &[taken(&rt, alloc), cancelled(&rt, 1)], Some(1));
     found_since(&rt, alloc, &[], None);
-    found_since(&rt, alloc, &[Entry::Raised { next: 1 }], None);
+    found_since(&rt, alloc, &[Entry::Raised { next: 1, heard: 0 }], None);
     found_since(&rt, alloc, &[taken(&rt, alloc), cancelled(&rt, 2)], None);
     let tried = Entry::Tried {
         number: number(&rt, 1),

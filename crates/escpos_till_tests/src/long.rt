@@ -11,7 +11,10 @@ use std::process::Abort;
 // What a test adds as its entry of this number, from 1 on: the kinds take turns, and each entry says its number.
 fn entry_at(rt: &impl Abort, alloc: Global, at: u32) -> Entry {
     match at % 8 {
-        0 => Entry::Raised { next: at },
+        0 => Entry::Raised {
+            next: at,
+            heard: at,
+        },
         1 => Entry::Queued {
             content: Content::new(at.to_be_bytes().to_vec(alloc).expect(rt, "memory")),
         },
@@ -21,6 +24,7 @@ fn entry_at(rt: &impl Abort, alloc: Global, at: u32) -> Entry {
         },
         3 => Entry::Recorded {
             number: number(rt, at as usize),
+            heard: at,
         },
         4 => Entry::Cancelled {
             number: number(rt, at as usize),
@@ -28,7 +32,10 @@ fn entry_at(rt: &impl Abort, alloc: Global, at: u32) -> Entry {
         5 => Entry::Key {
             key: key(rt, &letters(at)),
         },
-        6 => Entry::Renewed { last: at },
+        6 => Entry::Renewed {
+            last: at,
+            heard: at,
+        },
         _ => Entry::Earlier {
             number: number(rt, at as usize),
             key: key(rt, &letters(at)),
@@ -46,11 +53,13 @@ fn is_entry_at(entry: &Entry, at: u32) -> bool {
     match entry {
         Entry::Queued { content } => at % 8 == 1 && content.bytes() == at.to_be_bytes().as_slice(),
         Entry::Tried { number, next } => at % 8 == 2 && number.get() == at as usize && *next == at,
-        Entry::Recorded { number } => at % 8 == 3 && number.get() == at as usize,
-        Entry::Raised { next } => at % 8 == 0 && *next == at,
+        Entry::Recorded { number, heard } => {
+            at % 8 == 3 && number.get() == at as usize && *heard == at
+        }
+        Entry::Raised { next, heard } => at % 8 == 0 && *next == at && *heard == at,
         Entry::Cancelled { number } => at % 8 == 4 && number.get() == at as usize,
         Entry::Key { key } => at % 8 == 5 && key.bytes() == letters(at).as_slice(),
-        Entry::Renewed { last } => at % 8 == 6 && *last == at,
+        Entry::Renewed { last, heard } => at % 8 == 6 && *last == at && *heard == at,
         Entry::Earlier { number, key } => {
             at % 8 == 7 && number.get() == at as usize && key.bytes() == letters(at).as_slice()
         }
@@ -79,7 +88,7 @@ fn adds<S: Alter>(
 ) {
     for at in 1..=count {
         let entry = if at == wrong {
-            Entry::Raised { next: 0 }
+            Entry::Raised { next: 0, heard: 0 }
         } else {
             entry_at(rt, alloc, at)
         };

@@ -33,13 +33,31 @@ fn entries_of(rt: &impl Abort, alloc: Global) -> Vec<Entry> {
     let mut entries = Vec::new(alloc);
     let _ = entries.push(Entry::Queued { content });
     let _ = entries.push(Entry::Tried { number, next: 4 });
-    let _ = entries.push(Entry::Recorded { number });
-    let _ = entries.push(Entry::Raised { next: u32::MAX });
+    let _ = entries.push(Entry::Recorded { number, heard: 3 });
+    let _ = entries.push(Entry::Recorded {
+        number,
+        heard: u32::MAX,
+    });
+    let _ = entries.push(Entry::Raised {
+        next: u32::MAX,
+        heard: 0,
+    });
+    let _ = entries.push(Entry::Raised {
+        next: 5,
+        heard: u32::MAX,
+    });
     let _ = entries.push(Entry::Cancelled { number });
     for text in [b"!".as_slice(), b"sale-7", &[b'~'; 64]] {
         let _ = entries.push(Entry::Key { key: key(rt, text) });
     }
-    let _ = entries.push(Entry::Renewed { last: u32::MAX });
+    let _ = entries.push(Entry::Renewed {
+        last: u32::MAX,
+        heard: 6,
+    });
+    let _ = entries.push(Entry::Renewed {
+        last: 0,
+        heard: u32::MAX,
+    });
     let _ = entries.push(Entry::Earlier {
         number,
         key: key(rt, b"sale-8"),
@@ -67,15 +85,28 @@ fn are_alike(rt: &impl Abort, entry: &Entry, wanted: &Entry) {
             assert!(rt; *number == *n);
             assert!(rt; *next == *m);
         }
-        (Entry::Recorded { number }, Entry::Recorded { number: n }) => {
+        (
+            Entry::Recorded { number, heard },
+            Entry::Recorded {
+                number: n,
+                heard: h,
+            },
+        ) => {
             assert!(rt; *number == *n);
+            assert!(rt; *heard == *h);
         }
-        (Entry::Raised { next }, Entry::Raised { next: m }) => assert!(rt; *next == *m),
+        (Entry::Raised { next, heard }, Entry::Raised { next: m, heard: h }) => {
+            assert!(rt; *next == *m);
+            assert!(rt; *heard == *h);
+        }
         (Entry::Cancelled { number }, Entry::Cancelled { number: n }) => {
             assert!(rt; *number == *n);
         }
         (Entry::Key { key }, Entry::Key { key: k }) => assert!(rt; key.bytes() == k.bytes()),
-        (Entry::Renewed { last }, Entry::Renewed { last: n }) => assert!(rt; *last == *n),
+        (Entry::Renewed { last, heard }, Entry::Renewed { last: n, heard: h }) => {
+            assert!(rt; *last == *n);
+            assert!(rt; *heard == *h);
+        }
         (Entry::Earlier { number, key }, Entry::Earlier { number: n, key: k }) => {
             assert!(rt; *number == *n);
             assert!(rt; key.bytes() == k.bytes());

@@ -12,7 +12,7 @@ fn raised(rt: &impl Abort, alloc: Global, next: u32) -> Vec<Entry> {
         Ok(entries) => entries,
         Err(_) => Vec::with_capacity(alloc, 1).expect(rt, "entries"),
     };
-    let _ = entries.push(Entry::Raised { next });
+    let _ = entries.push(Entry::Raised { next, heard: 0 });
     entries
 }
 
@@ -55,7 +55,7 @@ fn open_refused(rt: HostRuntime) {
     assert!(&rt; entries.len() == 1);
 }
 
-const NINE: Entry = Entry::Raised { next: 9 };
+const NINE: Entry = Entry::Raised { next: 9, heard: 0 };
 
 // The ledger is let go, and the others' entry is found before one is added. None is where memory is refused.
 fn finds(rt: &impl Abort, store: &mut SharedStore<BusyLedger, MemoryStore>) -> bool {

@@ -35,7 +35,7 @@ fn raised_store(rt: &impl Abort, alloc: Global) -> MemoryStore {
         Ok(entries) => entries,
         Err(_) => Vec::with_capacity(alloc, 1).expect(rt, "entries"),
     };
-    let _ = entries.push(Entry::Raised { next: 5 });
+    let _ = entries.push(Entry::Raised { next: 5, heard: 0 });
     MemoryStore::new(alloc, entries, Failure::Never)
 }
 

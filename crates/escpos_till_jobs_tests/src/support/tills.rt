@@ -79,8 +79,9 @@ fn entry(rt: &impl Abort, alloc: Global, plain: Plain) -> Entry {
         },
         Plain::Recorded(at) => Entry::Recorded {
             number: number(rt, at),
+            heard: 0,
         },
-        Plain::Raised(next) => Entry::Raised { next },
+        Plain::Raised(next) => Entry::Raised { next, heard: 0 },
         Plain::Cancelled(at) => Entry::Cancelled {
             number: number(rt, at),
         },

@@ -53,7 +53,7 @@ fn learns(rt: &impl Abort, machine: &mut TillMachine, others: &[Entry]) -> bool 
 #[test]
 fn learned_refused(rt: HostRuntime) {
     let entries = [taken(&rt, rt.alloc())];
-    let others = [taken(&rt, rt.alloc()), Entry::Raised { next: 7 }];
+    let others = [taken(&rt, rt.alloc()), Entry::Raised { next: 7, heard: 0 }];
     let mut machine = tries_at_last(&rt, rt.alloc(), &entries);
     if !learns(&rt, &mut machine, &others) {
         let mut again = tries_at_last(&rt, rt.alloc(), &entries);
@@ -116,7 +116,7 @@ fn goes_on(rt: &impl Abort, alloc: Global, entries: &[Entry]) -> bool {
 
 #[test]
 fn renewed_refused(rt: HostRuntime) {
-    let entries = [taken(&rt, rt.alloc()), Entry::Raised { next: 7 }];
+    let entries = [taken(&rt, rt.alloc()), Entry::Raised { next: 7, heard: 0 }];
     if !goes_on(&rt, rt.alloc(), &entries) {
         assert!(&rt; goes_on(&rt, rt.alloc(), &entries));
     }

@@ -13,7 +13,7 @@ use std::process::Abort;
 
 // An entry is added. Answers no where memory is refused.
 fn adds<S: Alter>(rt: &impl Abort, store: &mut SqliteStore<S>, next: u32) -> bool {
-    match store.append(&Entry::Raised { next }, None) {
+    match store.append(&Entry::Raised { next, heard: 0 }, None) {
         Ok(appended) => matches!(appended, Appended::Done),
         Err(fault) => {
             assert!(rt; fault == StoreFault::Memory || fault == StoreFault::Failed);
@@ -40,7 +40,7 @@ fn are_raised(rt: &impl Abort, entries: &[Entry]) {
     let mut wanted = 1;
     for entry in entries {
         match entry {
-            Entry::Raised { next } => assert!(rt; *next == wanted),
+            Entry::Raised { next, .. } => assert!(rt; *next == wanted),
             _ => panic!(rt; "another entry"),
         }
         wanted = wanted.saturating_add(1);

@@ -35,9 +35,9 @@ fn is_tried(entry: &Entry, first: ReceiptNumber, mark: u32) -> bool {
     }
 }
 
-fn is_recorded(entry: &Entry, first: ReceiptNumber) -> bool {
+fn is_recorded(entry: &Entry, first: ReceiptNumber, mark: u32) -> bool {
     match entry {
-        Entry::Recorded { number } => *number == first,
+        Entry::Recorded { number, heard } => *number == first && *heard == mark,
         _ => false,
     }
 }
@@ -121,20 +121,20 @@ fn tries(rt: &impl Abort, machine: &mut TillMachine, copy: Option<&[u8]>, next: 
     machine.appended(Ok(()));
 }
 
-// The receipt is put, its closing mark answered, and it is recorded.
-fn records(rt: &impl Abort, machine: &mut TillMachine) {
+// The receipt is put, its closing mark answered, and it is recorded. No mark below this number can be answered any more.
+fn records(rt: &impl Abort, machine: &mut TillMachine, heard: u32) {
     puts(rt, machine, &SENT[..11]);
     hears(rt, machine, 100, b"\x37\x220000\x00");
     puts(rt, machine, &SENT[11..]);
     hears(rt, machine, 93, b"\x37\x220001\x00");
-    keeps(rt, machine);
+    keeps(rt, machine, heard);
 }
 
-// The first receipt is printed: that is kept, the link given up, and the owner told.
-fn keeps(rt: &impl Abort, machine: &mut TillMachine) {
+// The first receipt is printed: that is kept with what is heard, the link given up, and the owner told.
+fn keeps(rt: &impl Abort, machine: &mut TillMachine, heard: u32) {
     let first = number(rt, 1);
     match machine.asks() {
-        Action::Append(entry) => assert!(rt; is_recorded(entry, first)),
+        Action::Append(entry) => assert!(rt; is_recorded(entry, first, heard)),
         _ => panic!(rt; "nothing to keep"),
     }
     machine.appended(Ok(()));
@@ -148,7 +148,7 @@ fn machine_records(rt: HostRuntime) {
     assert!(&rt; machine.deliver(1, None, 100, false) == Err(TillRefusal::NothingWaits));
     takes(&rt, rt.alloc(), &mut machine, 1);
     tries(&rt, &mut machine, None, 2);
-    records(&rt, &mut machine);
+    records(&rt, &mut machine, 2);
     assert!(&rt; machine.states() == [ReceiptState::Recorded { place: 0 }].as_slice());
     assert!(&rt; machine.next_mark() == 2);
     assert!(&rt; machine.deliver(1, None, 100, false) == Err(TillRefusal::NothingWaits));
@@ -200,7 +200,7 @@ fn machine_hears_late(rt: HostRuntime) {
     hears(&rt, &mut machine, 86, b"\x37\x22 ~@!\x00");
     hears(&rt, &mut machine, 79, b"\x14\x00\x00\x0F");
     hears(&rt, &mut machine, 75, b"\x37\x220001\x00");
-    keeps(&rt, &mut machine);
+    keeps(&rt, &mut machine, 2);
     assert!(&rt; machine.states() == [ReceiptState::Recorded { place: 0 }].as_slice());
     assert!(&rt; machine.next_mark() == 4);
 }
@@ -273,7 +273,10 @@ fn machine_hears_of_another(rt: HostRuntime) {
             number: first,
             next: 2,
         },
-        Entry::Recorded { number: first },
+        Entry::Recorded {
+            number: first,
+            heard: 0,
+        },
         Entry::Queued {
             content: content(&rt, rt.alloc(), S.0),
         },
@@ -316,7 +319,7 @@ fn machine_fails(rt: HostRuntime) {
 fn machine_goes_on(rt: HostRuntime) {
     let first = number(&rt, 1);
     let entries = [
-        Entry::Raised { next: 0 },
+        Entry::Raised { next: 0, heard: 0 },
         Entry::Queued {
             content: content(&rt, rt.alloc(), S.0),
         },
@@ -333,29 +336,116 @@ fn machine_goes_on(rt: HostRuntime) {
     assert!(&rt; machine.raise(5) == Err(reused));
 }
 
-// A mark number that leaves fewer than a try takes isn't raised to; the last that leaves enough is.
+// The next number is raised to the last one that leaves enough for a try, and no higher.
+fn raises_no_higher(rt: &impl Abort, machine: &mut TillMachine, last: u32) {
+    let too_high = Err(TillRefusal::MarkTooHigh { last });
+    assert!(rt; machine.raise(last.saturating_add(1)) == too_high);
+    assert!(rt; machine.raise(u32::MAX) == too_high);
+    assert!(rt; machine.raise(last) == Ok(()));
+    machine.appended(Ok(()));
+    tells(rt, machine, TillNote::Raised);
+}
+
+// The first receipt has numbers for one opening mark, and not for two.
+fn has_numbers_for_one(rt: &impl Abort, machine: &mut TillMachine, last: u32) {
+    let number = number(rt, 1);
+    let used_up = TillRefusal::MarksUsedUp { number };
+    assert!(rt; machine.deliver(2, None, 100, false) == Err(used_up));
+    tries(rt, machine, None, last.saturating_add(2));
+}
+
+// All marks are answered: numbers go on to the greatest that a mark may have.
 #[test]
 fn machine_raises_no_higher(rt: HostRuntime) {
     let mut machine = machine_of(&rt, rt.alloc(), &[]);
-    let too_high = Err(TillRefusal::MarkTooHigh { last: 1_679_614 });
-    assert!(&rt; machine.raise(1_679_615) == too_high);
-    assert!(&rt; machine.raise(u32::MAX) == too_high);
-    assert!(&rt; machine.raise(1_679_614) == Ok(()));
-    machine.appended(Ok(()));
-    tells(&rt, &mut machine, TillNote::Raised);
+    raises_no_higher(&rt, &mut machine, 4_294_967_293);
     takes(&rt, rt.alloc(), &mut machine, 1);
-    let used_up = TillRefusal::MarksUsedUp {
-        number: number(&rt, 1),
-    };
-    assert!(&rt; machine.deliver(2, None, 100, false) == Err(used_up));
+    has_numbers_for_one(&rt, &mut machine, 4_294_967_293);
+}
+
+// A mark may still be answered: no other with its id may be put.
+#[test]
+fn machine_raises_to_no_id_that_is_out(rt: HostRuntime) {
+    let entries = [
+        Entry::Raised { next: 9, heard: 9 },
+        Entry::Queued {
+            content: content(&rt, rt.alloc(), S.0),
+        },
+        Entry::Tried {
+            number: number(&rt, 1),
+            next: 11,
+        },
+    ];
+    let mut machine = machine_of(&rt, rt.alloc(), &entries);
+    raises_no_higher(&rt, &mut machine, 1_679_623);
+    has_numbers_for_one(&rt, &mut machine, 1_679_623);
+}
+
+// Numbers go on where ids come round: twice so many numbers as there are ids, and the id is the first again.
+#[test]
+fn machine_goes_round(rt: HostRuntime) {
+    let entries = [Entry::Raised {
+        next: 3_359_232,
+        heard: 3_359_232,
+    }];
+    let mut machine = machine_of(&rt, rt.alloc(), &entries);
+    takes(&rt, rt.alloc(), &mut machine, 1);
+    tries(&rt, &mut machine, None, 3_359_234);
+    records(&rt, &mut machine, 3_359_234);
+    assert!(&rt; machine.next_mark() == 3_359_234);
+}
+
+// A receipt is tried with the last id; ids come round in its next try, and a late answer to the first one's closing mark is known by its id.
+#[test]
+fn machine_hears_late_where_ids_come_round(rt: HostRuntime) {
+    let entries = [Entry::Raised {
+        next: 1_679_614,
+        heard: 1_679_614,
+    }];
+    let mut machine = machine_of(&rt, rt.alloc(), &entries);
+    takes(&rt, rt.alloc(), &mut machine, 1);
     tries(&rt, &mut machine, None, 1_679_616);
+    puts(&rt, &mut machine, b"\x1D(H\x06\x0000ZZZY");
+    hears(&rt, &mut machine, 100, b"\x37\x22ZZZY\x00");
+    puts(&rt, &mut machine, b"\x1B@Hi\n\x1D(H\x06\x0000ZZZZ");
+    machine.link_ended(SendFault::Ended);
+    waits(&rt, &mut machine, SendFault::Ended);
+    tries(&rt, &mut machine, None, 1_679_618);
+    puts(&rt, &mut machine, &SENT[..11]);
+    hears(&rt, &mut machine, 100, b"\x37\x22ZZZZ\x00");
+    keeps(&rt, &mut machine, 1_679_616);
+}
+
+// Nothing says that a mark is answered: its id isn't put again, and the receipt waits.
+#[test]
+fn machine_puts_no_id_that_is_out(rt: HostRuntime) {
+    let first = number(&rt, 1);
+    let entries = [
+        Entry::Queued {
+            content: content(&rt, rt.alloc(), S.0),
+        },
+        Entry::Tried {
+            number: first,
+            next: 2,
+        },
+        Entry::Raised {
+            next: 1_679_615,
+            heard: 0,
+        },
+    ];
+    let mut machine = machine_of(&rt, rt.alloc(), &entries);
+    let used_up = Err(TillRefusal::MarksUsedUp { number: first });
+    assert!(&rt; machine.deliver(1, None, 100, false) == used_up);
+    let mut machine = machine_of(&rt, rt.alloc(), &entries);
+    let too_high = Err(TillRefusal::MarkTooHigh { last: 1_679_614 });
+    assert!(&rt; machine.raise(1_679_616) == too_high);
 }
 
 // Numbers below the last are all taken: each number is raised to, and a receipt is tried with it.
 #[test]
 fn machine_takes_each_number(rt: HostRuntime) {
     for first in [1u32, 255, 256, 1_000, 1_001, 65_535, 65_536, 1_000_000] {
-        let mut machine = machine_of(&rt, rt.alloc(), &[Entry::Raised { next: first }]);
+        let mut machine = machine_of(&rt, rt.alloc(), &[Entry::Raised { next: first, heard: 0 }]);
         assert!(&rt; machine.raise(first) == Ok(()));
         machine.appended(Ok(()));
         tells(&rt, &mut machine, TillNote::Raised);
@@ -373,7 +463,7 @@ fn machine_takes_many(rt: HostRuntime) {
     }
     assert!(&rt; machine.states().len() == 300);
     tries(&rt, &mut machine, None, 2);
-    records(&rt, &mut machine);
+    records(&rt, &mut machine, 2);
     match machine.states() {
         [first, second, ..] => {
             assert!(&rt; *first == ReceiptState::Recorded { place: 0 });
@@ -386,7 +476,7 @@ fn machine_takes_many(rt: HostRuntime) {
 // Three opening marks: an answer to any of them opens the link, and the receipt has the number after them.
 #[test]
 fn machine_puts_three_openings(rt: HostRuntime) {
-    let mut machine = machine_of(&rt, rt.alloc(), &[Entry::Raised { next: 7 }]);
+    let mut machine = machine_of(&rt, rt.alloc(), &[Entry::Raised { next: 7, heard: 0 }]);
     takes(&rt, rt.alloc(), &mut machine, 1);
     assert!(&rt; machine.deliver(3, None, 100, false) == Ok(()));
     machine.connected(true);

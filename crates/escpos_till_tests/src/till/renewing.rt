@@ -25,7 +25,10 @@ fn older(rt: &impl Abort, alloc: Global) -> Vec<Entry> {
         number: first,
         next: 2,
     });
-    let _ = all.push(Entry::Recorded { number: first });
+    let _ = all.push(Entry::Recorded {
+        number: first,
+        heard: 2,
+    });
     let _ = all.push(Entry::Key {
         key: key(rt, b"void"),
     });
@@ -45,7 +48,7 @@ fn older(rt: &impl Abort, alloc: Global) -> Vec<Entry> {
         number: third,
         next: 6,
     });
-    let _ = all.push(Entry::Raised { next: 9 });
+    let _ = all.push(Entry::Raised { next: 9, heard: 0 });
     all
 }
 
@@ -53,7 +56,7 @@ fn older(rt: &impl Abort, alloc: Global) -> Vec<Entry> {
 fn newer(rt: &impl Abort, alloc: Global) -> Vec<Entry> {
     let third = number(rt, 3);
     let mut all = Vec::new(alloc);
-    let _ = all.push(Entry::Renewed { last: 2 });
+    let _ = all.push(Entry::Renewed { last: 2, heard: 2 });
     for (at, text) in [(1, b"one"), (2, b"two")] {
         let _ = all.push(Entry::Earlier {
             number: number(rt, at),
@@ -73,7 +76,7 @@ fn newer(rt: &impl Abort, alloc: Global) -> Vec<Entry> {
         number: third,
         next: 6,
     });
-    let _ = all.push(Entry::Raised { next: 9 });
+    let _ = all.push(Entry::Raised { next: 9, heard: 0 });
     all
 }
 
@@ -125,14 +128,14 @@ fn nothing_waits(rt: HostRuntime) {
     });
     let new = renewed(rt.alloc(), &all).expect(&rt, "a ledger");
     assert!(&rt; new.len() == 2);
-    assert!(&rt; new[0].is_same(&Entry::Renewed { last: 1 }));
-    assert!(&rt; new[1].is_same(&Entry::Raised { next: 0 }));
+    assert!(&rt; new[0].is_same(&Entry::Renewed { last: 1, heard: 0 }));
+    assert!(&rt; new[1].is_same(&Entry::Raised { next: 0, heard: 0 }));
 }
 
 #[test]
 fn no_ledger(rt: HostRuntime) {
     let mut all = Vec::new(rt.alloc());
-    let _ = all.push(Entry::Raised { next: 3 });
-    let _ = all.push(Entry::Renewed { last: 1 });
+    let _ = all.push(Entry::Raised { next: 3, heard: 0 });
+    let _ = all.push(Entry::Renewed { last: 1, heard: 0 });
     assert!(&rt; matches!(renewed(rt.alloc(), &all), Err(NotRenewed::Damaged)));
 }

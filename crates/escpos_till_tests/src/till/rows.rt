@@ -215,22 +215,41 @@ fn store_fails_later(rt: HostRuntime) {
     goes_on(&rt, rt.alloc(), failure, &[UNTRIED, UNTRIED]);
 }
 
-// An entry of a ledger: a receipt is taken; it is tried, and this is the next number; it is recorded; the next number is raised; it is
-// cancelled; a key is said, of this one letter.
+// An entry of a ledger: a receipt is taken; it is tried, and this is the next number; it is recorded, and no mark below a number can be answered
+// any more; the next number is raised, and what is said of marks; it is cancelled; a key is said, of this one letter.
 #[derive(Clone, Copy)]
 enum Plain {
     Taken,
     Tried(usize, u32),
     Recorded(usize),
+    Heard(usize, u32),
     Raised(u32),
+    RaisedAs(u32, u32),
     Cancelled(usize),
     Key(u8),
 }
 
 // Entries that are no ledger, and would be one without the last of them: a receipt is recorded, or tried, that was never taken, or is
 // recorded; one is recorded untried, or twice; the next number stays at a try, or falls; one is cancelled that was never taken, or waits
-// no more; one is tried or recorded that is cancelled; a key is said that a receipt has, but not one that is void.
-const NO_LEDGERS: [&[Plain]; 17] = [
+// no more; one is tried or recorded that is cancelled; a key is said that a receipt has, but not one that is void; a try has so many marks that
+// two may have one id, or marks above the greatest number; marks are said to be answered that are still to be put, or that may be answered yet.
+const NO_LEDGERS: [&[Plain]; 23] = [
+    &[Plain::Taken, Plain::Tried(1, 1_679_617)],
+    &[
+        Plain::Taken,
+        Plain::Tried(1, 2),
+        Plain::Heard(1, 2),
+        Plain::Taken,
+        Plain::Tried(2, 1_679_619),
+    ],
+    &[Plain::Taken, Plain::Tried(1, 2), Plain::Heard(1, 3)],
+    &[Plain::Taken, Plain::RaisedAs(7, 6)],
+    &[Plain::Taken, Plain::Tried(1, 2), Plain::RaisedAs(7, 7)],
+    &[
+        Plain::RaisedAs(9, 9),
+        Plain::Raised(11),
+        Plain::RaisedAs(12, 12),
+    ],
     &[Plain::Recorded(1)],
     &[Plain::Tried(1, 9)],
     &[Plain::Taken, Plain::Tried(2, 2)],
@@ -296,8 +315,14 @@ fn entry(rt: &impl Abort, alloc: Global, plain: Plain) -> Entry {
         },
         Plain::Recorded(at) => Entry::Recorded {
             number: number(rt, at),
+            heard: 0,
         },
-        Plain::Raised(next) => Entry::Raised { next },
+        Plain::Heard(at, heard) => Entry::Recorded {
+            number: number(rt, at),
+            heard,
+        },
+        Plain::Raised(next) => Entry::Raised { next, heard: 0 },
+        Plain::RaisedAs(next, heard) => Entry::Raised { next, heard },
         Plain::Cancelled(at) => Entry::Cancelled {
             number: number(rt, at),
         },

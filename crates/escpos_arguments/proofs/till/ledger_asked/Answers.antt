@@ -11,5 +11,5 @@ returns-in-Some-clause-taken c = λ task asks range.
 
 pub returns-in-None-clause-taken : goal.returns-in-None-clause-taken
 returns-in-None-clause-taken c = λ task asks range.
-    taken_listing (rows_of (found_of c.args.given.now)) task c.in_ok-ledger.ledger c.listing_asked.result asks range c.in-None.ensures
+    taken_listing (rows_of (found_of c.args.given.now)) task c.in_ok-ledger.ledger c.listing_asked.result asks c.in-None.ensures
     (λ path h. one_result c.ledger_path.result _ _ c.in_ok-ledger.was (c.ledger_path.ensures.taken path h)) c.listing_asked.ensures.taken

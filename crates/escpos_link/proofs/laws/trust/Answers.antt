@@ -1,6 +1,6 @@
 use Rattle.escpos_command.specs.Meanings.{all_but_drawer}
 use Rattle.escpos_link.proofs.WayKept.{Laws}
-use Rattle.escpos_link.proofs.Trusting.{leaves_trusted, none_bad, resumed_from_trusted, resumed_trusted, stands, still, trusted}
+use Rattle.escpos_link.proofs.Trusting.{answered_resumed, leaves_trusted, none_bad, resumed_from_trusted, resumed_trusted, stands, still, trusted}
 use Rattle.escpos_link.proofs.Taking.{taken_trusted}
 use Rattle.escpos_link.specs.Resumed.{resumed, resumed_from}
 use Rattle.escpos_link.proofs.laws.trust.Goals as goal
@@ -30,6 +30,8 @@ returns c =
       resumes = λ l f count least t. still l (resumed l f count) (resumed_trusted l.printer.sheet.line_dots laws l f count least t);
       resumes_from = λ l f count heard least less t.
           still l (resumed_from l f count heard) (resumed_from_trusted l.printer.sheet.line_dots laws l f count heard least less t);
+      resumes_answered = λ l f count heard none within t.
+          still l (resumed_from l f count heard) (answered_resumed l.printer.sheet.line_dots laws l f count heard none within t);
       taken = λ h w t. taken_trusted h w t;
       in_turn = λ e l after n i t happened consumed at. none_bad l.printer.sheet.line_dots laws e l after n consumed at i t happened;
     }

@@ -12,13 +12,13 @@ returns c = record {
       let (receipt, describes, whole, is) = c.in-Ok.ensures.receipt in record {
         content = content_with c.in-Some-first_besides.first.options c.in-Some-first_besides.first.content.now;
         tried = c.in-Some-first_besides.first.tried;
-        first = (c.in-Some-first_besides.ensures.first entries book follows).0;
+        first = (c.in-Some-first_besides.ensures.first entries _ book follows).0;
         receipt = receipt;
         describes = describes;
         whole = whole;
         sent = is;
       };
-  waits = λ entries book follows. (c.in-Some-first_besides.ensures.first entries book follows).1;
+  waits = λ entries book follows. (c.in-Some-first_besides.ensures.first entries _ book follows).1;
   answers = refl;
   goes_on = ap Some c.copy.ensures;
   commands = c.in-Ok.ensures.commands.0;
@@ -26,7 +26,7 @@ returns c = record {
   link = search rules;
   quiet = search rules;
   marks = search rules;
-  within = omega (arith, c.if-book-ge-MARK_COUNT.false);
+  within = omega (arith, c.if-book-limit_from.false, c.limit_from.ensures, c.min.ensures, c.oldest_mark.ensures);
   few = λ entries book. omega (arith, c.if-book.false, book.count);
   room = search rules;
 }

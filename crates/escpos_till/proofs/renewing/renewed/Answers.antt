@@ -9,9 +9,9 @@ use Rattle.escpos_till.proofs.renewing.renewed.Goals as goal
 pub returns-in-Ok-check_renewed-clause-renews : goal.returns-in-Ok-check_renewed-clause-renews
 returns-in-Ok-check_renewed-clause-renews c =
     let same = c.deref.ensures.value in
-    let (nb, found, next, agree) = c.in-Ok-check_renewed.ensures.agrees in
+    let (nb, found, next, heard, agree) = c.in-Ok-check_renewed.ensures.agrees in
     renews_so c.in-Ok.book c.args.entries.now c.in-Ok-carried_over.new.items _ nb c.in-Ok.ensures.book refl c.in-Ok-carried_over.ensures.carried
-    (subst IsLedger same c.in-Ok-check_renewed.ensures.ledger) (subst (IsBookOf nb) same found) next agree
+    (subst IsLedger same c.in-Ok-check_renewed.ensures.ledger) (subst (IsBookOf nb) same found) next heard agree
 
 pub returns-then-over-clause-too_many : goal.returns-then-over-clause-too_many
 returns-then-over-clause-too_many c = λ is.

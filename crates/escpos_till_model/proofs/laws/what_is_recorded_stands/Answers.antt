@@ -14,27 +14,27 @@ known laws w after happenings begins runs = over_time laws w after happenings (b
 
 pub returns-clause-stands : goal.returns-clause-stands
 returns-clause-stands c = λ w after happenings begins runs.
-    let laws : LineLaws = record { trust = c.trust.ensures; promise = c.promise.ensures; one_number = c.mark_numbers.ensures.one_number; first_round = c.counted_marks.ensures.first_round; every = c.every_line.ensures.kept; turn = c.in_turn.ensures; fitting = c.fitting.ensures } in
+    let laws : LineLaws = record { trust = c.trust.ensures; promise = c.promise.ensures; apart = c.counted_marks.ensures.apart; every = c.every_line.ensures.kept; turn = c.in_turn.ensures; fitting = c.fitting.ensures } in
     recorded_stand laws after (known laws w after happenings begins runs)
 
 pub returns-clause-kept : goal.returns-clause-kept
 returns-clause-kept c = λ w after happenings begins runs.
-    let laws : LineLaws = record { trust = c.trust.ensures; promise = c.promise.ensures; one_number = c.mark_numbers.ensures.one_number; first_round = c.counted_marks.ensures.first_round; every = c.every_line.ensures.kept; turn = c.in_turn.ensures; fitting = c.fitting.ensures } in
+    let laws : LineLaws = record { trust = c.trust.ensures; promise = c.promise.ensures; apart = c.counted_marks.ensures.apart; every = c.every_line.ensures.kept; turn = c.in_turn.ensures; fitting = c.fitting.ensures } in
     each_is_kept after.kept (known laws w after happenings begins runs).account.keeps.ledger
 
 pub returns-clause-queued : goal.returns-clause-queued
 returns-clause-queued c = λ w after happenings number begins runs among.
-    let laws : LineLaws = record { trust = c.trust.ensures; promise = c.promise.ensures; one_number = c.mark_numbers.ensures.one_number; first_round = c.counted_marks.ensures.first_round; every = c.every_line.ensures.kept; turn = c.in_turn.ensures; fitting = c.fitting.ensures } in
+    let laws : LineLaws = record { trust = c.trust.ensures; promise = c.promise.ensures; apart = c.counted_marks.ensures.apart; every = c.every_line.ensures.kept; turn = c.in_turn.ensures; fitting = c.fitting.ensures } in
     (known laws w after happenings begins runs).told (note.Queued number) among
 
 pub returns-clause-recorded : goal.returns-clause-recorded
 returns-clause-recorded c = λ w after happenings number begins runs among.
-    let laws : LineLaws = record { trust = c.trust.ensures; promise = c.promise.ensures; one_number = c.mark_numbers.ensures.one_number; first_round = c.counted_marks.ensures.first_round; every = c.every_line.ensures.kept; turn = c.in_turn.ensures; fitting = c.fitting.ensures } in
+    let laws : LineLaws = record { trust = c.trust.ensures; promise = c.promise.ensures; apart = c.counted_marks.ensures.apart; every = c.every_line.ensures.kept; turn = c.in_turn.ensures; fitting = c.fitting.ensures } in
     (known laws w after happenings begins runs).told (note.Recorded number) among
 
 pub returns-clause-cancelled : goal.returns-clause-cancelled
 returns-clause-cancelled c = λ w after happenings number tried begins runs among.
-    let laws : LineLaws = record { trust = c.trust.ensures; promise = c.promise.ensures; one_number = c.mark_numbers.ensures.one_number; first_round = c.counted_marks.ensures.first_round; every = c.every_line.ensures.kept; turn = c.in_turn.ensures; fitting = c.fitting.ensures } in
+    let laws : LineLaws = record { trust = c.trust.ensures; promise = c.promise.ensures; apart = c.counted_marks.ensures.apart; every = c.every_line.ensures.kept; turn = c.in_turn.ensures; fitting = c.fitting.ensures } in
     (known laws w after happenings begins runs).told (note.Cancelled number tried) among
 
 pub returns-clause-extends : goal.returns-clause-extends
@@ -42,13 +42,13 @@ returns-clause-extends c = entries_last
 
 pub returns-clause-begins_again : goal.returns-clause-begins_again
 returns-clause-begins_again c = λ w after happenings begins runs off.
-    let laws : LineLaws = record { trust = c.trust.ensures; promise = c.promise.ensures; one_number = c.mark_numbers.ensures.one_number; first_round = c.counted_marks.ensures.first_round; every = c.every_line.ensures.kept; turn = c.in_turn.ensures; fitting = c.fitting.ensures } in
+    let laws : LineLaws = record { trust = c.trust.ensures; promise = c.promise.ensures; apart = c.counted_marks.ensures.apart; every = c.every_line.ensures.kept; turn = c.in_turn.ensures; fitting = c.fitting.ensures } in
     begins_again laws after off (known laws w after happenings begins runs)
 
 pub returns-clause-begins : goal.returns-clause-begins
-returns-clause-begins c = first_world (record { trust = c.trust.ensures; promise = c.promise.ensures; one_number = c.mark_numbers.ensures.one_number; first_round = c.counted_marks.ensures.first_round; every = c.every_line.ensures.kept; turn = c.in_turn.ensures; fitting = c.fitting.ensures })
+returns-clause-begins c = first_world (record { trust = c.trust.ensures; promise = c.promise.ensures; apart = c.counted_marks.ensures.apart; every = c.every_line.ensures.kept; turn = c.in_turn.ensures; fitting = c.fitting.ensures })
 
 pub returns-clause-width : goal.returns-clause-width
 returns-clause-width c = λ w after happenings begins runs.
-    let laws : LineLaws = record { trust = c.trust.ensures; promise = c.promise.ensures; one_number = c.mark_numbers.ensures.one_number; first_round = c.counted_marks.ensures.first_round; every = c.every_line.ensures.kept; turn = c.in_turn.ensures; fitting = c.fitting.ensures } in
+    let laws : LineLaws = record { trust = c.trust.ensures; promise = c.promise.ensures; apart = c.counted_marks.ensures.apart; every = c.every_line.ensures.kept; turn = c.in_turn.ensures; fitting = c.fitting.ensures } in
     same_width laws happenings w after (begun laws w begins) runs

@@ -20,8 +20,8 @@ waiting_at-requires-clause-contents c =
 
 pub returns : goal.returns
 returns c = record {
-  first = λ entries book follows.
+  first = λ entries heard book follows.
       let first = subst (λ (ss : List ReceiptState). IsFirstBesides ss (c.args.number - (1 + c.args.self.now.earlier)) c.first_besides.result) c.deref.ensures.value
       (subst (λ n. IsFirstBesides c.deref.result.now n c.first_besides.result) (omega (arith, c.saturating_sub-place.ensures, c.get.ensures.value)) c.first_besides.ensures) in
-      others_found c.args.self.now entries c.args.number c.first_besides.result c.waiting_at.result book first follows.0 c.waiting_at.ensures;
+      others_found c.args.self.now entries c.args.number heard c.first_besides.result c.waiting_at.result book first follows.0 c.waiting_at.ensures;
 }

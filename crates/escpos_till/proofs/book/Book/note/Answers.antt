@@ -17,15 +17,15 @@ one_try_more-requires c =
 pub returns-in-Tried-clause-notes : goal.returns-in-Tried-clause-notes
 returns-in-Tried-clause-notes c entries book ledger follows =
     book_after_tried c.args.self.now _ entries c.args.entry c.in-Tried.number c.in-Tried.next c.place-place.result c.index.result.now c.one_try_more.result book follows c.in-Tried.is
-    c.place-place.ensures c.index.ensures c.one_try_more.ensures refl refl refl refl refl refl c.push_reserved.ensures.items refl refl refl
+    c.place-place.ensures c.index.ensures c.one_try_more.ensures refl refl refl refl refl refl refl c.push_reserved.ensures.items refl refl refl
 
 pub returns-in-Raised-clause-notes : goal.returns-in-Raised-clause-notes
 returns-in-Raised-clause-notes c entries book ledger follows =
-    book_after_raised c.args.self.now _ entries c.args.entry c.in-Raised.next book c.in-Raised.is refl refl refl refl refl refl refl refl refl refl
+    book_after_raised c.args.self.now _ entries c.args.entry c.in-Raised.next c.in-Raised.heard book c.in-Raised.is refl refl refl refl refl c.max-self.ensures refl refl refl refl refl
 
 pub returns-in-Key-clause-notes : goal.returns-in-Key-clause-notes
 returns-in-Key-clause-notes c entries book ledger follows =
-    book_after_key c.args.self.now _ entries c.args.entry c.in-Key.key book c.in-Key.is refl refl refl refl refl refl refl refl refl refl
+    book_after_key c.args.self.now _ entries c.args.entry c.in-Key.key book c.in-Key.is refl refl refl refl refl refl refl refl refl refl refl
 
 pub place-place-requires : goal.place-place-requires
 place-place-requires c =
@@ -35,11 +35,11 @@ place-place-requires c =
 
 pub returns-in-Renewed-clause-notes : goal.returns-in-Renewed-clause-notes
 returns-in-Renewed-clause-notes c entries book ledger follows =
-    book_after_renewed c.args.self.now _ entries c.args.entry c.in-Renewed.last book follows c.in-Renewed.is refl refl refl refl refl refl refl refl refl refl
+    book_after_renewed c.args.self.now _ entries c.args.entry c.in-Renewed.last c.in-Renewed.heard book follows c.in-Renewed.is refl refl refl refl refl c.max-self-in-Renewed.ensures refl refl refl refl refl
 
 pub returns-in-Earlier-clause-notes : goal.returns-in-Earlier-clause-notes
 returns-in-Earlier-clause-notes c entries book ledger follows =
-    book_after_earlier c.args.self.now _ entries c.args.entry c.in-Earlier.number c.in-Earlier.key book follows c.in-Earlier.is refl refl refl refl refl refl refl c.push_reserved-in-Earlier.ensures.items refl refl
+    book_after_earlier c.args.self.now _ entries c.args.entry c.in-Earlier.number c.in-Earlier.key book follows c.in-Earlier.is refl refl refl refl refl refl refl refl c.push_reserved-in-Earlier.ensures.items refl refl
 
 pub index-requires : goal.index-requires
 index-requires c =

@@ -30,7 +30,7 @@ pub returns : goal.returns
 returns c entries book ledger follows =
     book_after_cancelled c.args.self.now _ entries _ c.args.number c.place-place.result c.index.result.now c.once_cancelled.result book follows refl c.place-place.ensures c.index.ensures
     c.once_cancelled.ensures c.new-2.result refl refl
-    (subst (λ (ss : List ReceiptState). IsFirstWaiting ss c.first_waiting_from-self.result) c.deref.ensures.value c.first_waiting_from-self.ensures) refl refl refl refl refl refl refl
+    (subst (λ (ss : List ReceiptState). IsFirstWaiting ss c.first_waiting_from-self.result) c.deref.ensures.value c.first_waiting_from-self.ensures) refl refl refl refl refl refl refl refl
 
 pub place-place-requires : goal.place-place-requires
 place-place-requires c =

@@ -7,9 +7,9 @@ pub returns-in-Some : goal.returns-in-Some
 returns-in-Some c entries book ledger follows =
     let keys = queued_keyed c.args.self.now entries c.args.content c.in-Some.key c.last_number-number.result c.push_reserved-in-Some.new.self.items c.push_reserved.new.self.items book
     (sym c.take.ensures.value ∙ c.in-Some.is) c.push_reserved.ensures.items c.last_number-number.ensures c.push_reserved-in-Some.ensures.items in
-    book_after_queued c.args.self.now _ entries _ c.args.content book ledger refl c.push_reserved-2.ensures.items c.push_reserved.ensures.items refl refl refl refl refl keys c.take.ensures.after refl
+    book_after_queued c.args.self.now _ entries _ c.args.content book ledger refl c.push_reserved-2.ensures.items c.push_reserved.ensures.items refl refl refl refl refl refl keys c.take.ensures.after refl
 
 pub returns-in_default : goal.returns-in_default
 returns-in_default c entries book ledger follows =
     let keys = queued_plain c.args.self.now entries c.args.content c.args.self.now.keys.items book (sym c.take.ensures.value ∙ c.in_default.is) refl in
-    book_after_queued c.args.self.now _ entries _ c.args.content book ledger refl c.push_reserved-2.ensures.items c.push_reserved.ensures.items refl refl refl refl refl keys c.take.ensures.after refl
+    book_after_queued c.args.self.now _ entries _ c.args.content book ledger refl c.push_reserved-2.ensures.items c.push_reserved.ensures.items refl refl refl refl refl refl keys c.take.ensures.after refl

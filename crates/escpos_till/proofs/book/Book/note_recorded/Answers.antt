@@ -1,5 +1,5 @@
 -- One more receipt is recorded.
-use Rattle.std.proofs.Common.{◌-◌, ◌∙◌, List, ap, slice_get, sym, subst, refl, arith}
+use Rattle.std.proofs.Common.{◌-◌, ◌∙◌, List, max, ap, slice_get, sym, subst, refl, arith}
 use Rattle.escpos_till.specs.States.{IsFirstWaiting}
 use Rattle.escpos_till.specs.declared.state.ReceiptState.{ReceiptState}
 use Rattle.escpos_till.specs.declared.state.ReceiptState.TheVariants as state
@@ -26,8 +26,8 @@ first_waiting_from-self-requires-clause-passed c k s before is =
 
 pub returns-clause-notes : goal.returns-clause-notes
 returns-clause-notes c entries book ledger follows =
-    book_after_recorded c.args.self.now _ entries _ c.args.number c.place-place.result book follows refl c.place-place.ensures c.new-2.result refl refl
-    (subst (λ (ss : List ReceiptState). IsFirstWaiting ss c.first_waiting_from-self.result) c.deref.ensures.value c.first_waiting_from-self.ensures) refl refl refl refl refl refl refl
+    book_after_recorded c.args.self.now _ entries _ c.args.number c.args.heard c.place-place.result book follows refl c.place-place.ensures c.new-2.result refl refl
+    (subst (λ (ss : List ReceiptState). IsFirstWaiting ss c.first_waiting_from-self.result) c.deref.ensures.value c.first_waiting_from-self.ensures) refl refl (c.max-self.ensures ∙ ap (max c.args.self.now.heard) (c.said.ensures entries book ledger)) refl refl refl refl refl
 
 pub place-place-requires : goal.place-place-requires
 place-place-requires c =

@@ -22,8 +22,8 @@ invariant_of-self c =
       ledger = ledger-snoc entries c.args.entry ledger fits.0;
       fits = fits_follows c.args.self.now.book c.reserve_next.new.book entries c.args.entry c.args.then c.self.inside.host c.self.inside.book.next c.following.new.host c.following.result fits
           (λ none room. c.reserve_next.ensures.kept (c.note.ensures.room none (subst HasRoom (ap (λ m. m.book) (sym c.self.view_is)) room)))
-          (λ n tried due m next_is entry_is room.
-          c.reserve_next.ensures.try_kept n tried due next_is (c.note.ensures.try_room m entry_is (subst HasTryRoom (ap (λ m. m.book) (sym c.self.view_is)) room)))
+          (λ n tried due m hd next_is entry_is room.
+          c.reserve_next.ensures.try_kept n tried due next_is (c.note.ensures.try_room m hd entry_is (subst HasTryRoom (ap (λ m. m.book) (sym c.self.view_is)) room)))
           c.following.ensures;
     }
 
