@@ -436,7 +436,8 @@ KOLATENNIS_API int kolatennis_till_told(kolatennis_till *till);
  * in: at ASK_WAIT, wait for it so long. */
 KOLATENNIS_API int kolatennis_till_is_paused(kolatennis_till *till, bool *is);
 
-/* The number of the receipt that was taken last, in these entries or in an older ledger that they go on from. Where one of them stands. The number of the next mark. */
+/* The number of the receipt that was taken last, in these entries or in an older ledger that they go on from. Where one of them stands.
+ * The number of the next mark. */
 KOLATENNIS_API int kolatennis_till_receipts(kolatennis_till *till, size_t *receipts);
 KOLATENNIS_API int kolatennis_till_state(kolatennis_till *till, size_t number, uint32_t *state, size_t *count);
 KOLATENNIS_API int kolatennis_till_next_mark(kolatennis_till *till, uint32_t *mark);

@@ -55,7 +55,7 @@ static void has_names(void) {
         known++;
         for (uint32_t other = 0; other < one; other++) IS(strcmp(kolatennis_error_name(one), kolatennis_error_name(other)));
     }
-    IS(known == 7 + 13 + 5 + 5 + 6 + 11 + 3);
+    IS(known == 7 + 14 + 5 + 5 + 6 + 11 + 3);
     IS(!strcmp(kolatennis_error_name(KOLATENNIS_RECEIPT_TEXT_LEFT), "TextLeft"));
     IS(!strcmp(kolatennis_error_name(UINT32_MAX), "unknown") && !strcmp(kolatennis_error_name(KOLATENNIS_EVENT_OPENED), "unknown"));
 }

@@ -4,11 +4,11 @@ use Rattle.escpos_command.specs.declared.command.Command.{Command}
 use Rattle.escpos_host.specs.declared.send.SendFault.{SendFault}
 use Rattle.escpos_receipt.specs.declared.options.ReceiptOptions.{ReceiptOptions}
 use Rattle.escpos_till.specs.declared.entry.Entry.{Entry}
-use Rattle.escpos_till.specs.declared.machine.Action.{Action}
-use Rattle.escpos_till.specs.declared.machine.Stage.{Stage}
-use Rattle.escpos_till.specs.declared.machine.Stage.TheVariants as stage
-use Rattle.escpos_till.specs.declared.machine.Talk.{Talk}
-use Rattle.escpos_till.specs.declared.machine.TillRefusal.{TillRefusal}
+use Rattle.escpos_till.specs.declared.stage.Action.{Action}
+use Rattle.escpos_till.specs.declared.stage.Stage.{Stage}
+use Rattle.escpos_till.specs.declared.stage.Stage.TheVariants as stage
+use Rattle.escpos_till.specs.declared.stage.Talk.{Talk}
+use Rattle.escpos_till.specs.declared.note.TillRefusal.{TillRefusal}
 use Rattle.escpos_till.specs.declared.store.StoreFault.TheVariants as store
 use Rattle.escpos_till.specs.Contents.{content_with}
 use Rattle.escpos_till.specs.Copy.{IsCopyText}

@@ -4,14 +4,14 @@ use Rattle.escpos_host.specs.declared.send.SendFault.{SendFault}
 use Rattle.escpos_host.specs.declared.send.SendFault.TheVariants as fault
 use Rattle.escpos_host.specs.Machine.{error_number}
 use Rattle.escpos_receipt.specs.Refusals.{json_number, json_place}
-use Rattle.escpos_till.specs.declared.machine.Action.{Action}
-use Rattle.escpos_till.specs.declared.machine.Action.TheVariants as action
-use Rattle.escpos_till.specs.declared.machine.TillNote.{TillNote}
-use Rattle.escpos_till.specs.declared.machine.TillNote.TheVariants as note
+use Rattle.escpos_till.specs.declared.stage.Action.{Action}
+use Rattle.escpos_till.specs.declared.stage.Action.TheVariants as action
+use Rattle.escpos_till.specs.declared.note.TillNote.{TillNote}
+use Rattle.escpos_till.specs.declared.note.TillNote.TheVariants as note
 use Rattle.escpos_till.specs.declared.pause.Pause.{Pause}
 use Rattle.escpos_till.specs.declared.pause.Pause.TheVariants as pause
-use Rattle.escpos_till.specs.declared.machine.TillRefusal.{TillRefusal}
-use Rattle.escpos_till.specs.declared.machine.TillRefusal.TheVariants as refusal
+use Rattle.escpos_till.specs.declared.note.TillRefusal.{TillRefusal}
+use Rattle.escpos_till.specs.declared.note.TillRefusal.TheVariants as refusal
 use Rattle.escpos_till.specs.declared.state.ReceiptState.{ReceiptState}
 use Rattle.escpos_till.specs.declared.state.ReceiptState.TheVariants as state
 use Rattle.escpos_till.specs.declared.store.StoreFault.{StoreFault}

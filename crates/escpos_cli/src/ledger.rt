@@ -119,18 +119,21 @@ impl Ledgers<FileLedgerStore> for DeliveredFiles<'_> {
 /// A store in a file that is let go while a printer is waited for.
 pub type SharedFileStore<'r> = SharedStore<DeliveredFiles<'r>, FileLedgerStore>;
 
-/// Ledgers that receipts are delivered from.
+/// Ledgers that receipts are delivered from, and that are renewed.
 #[derive(Drop)]
 pub struct SharedFiles<'r> {
     rt: &'r HostRuntime,
+    // a ledger that isn't there is made; else it is none
+    makes: bool,
 }
 
 impl<'r> SharedFiles<'r> {
-    /// The files that this program can reach.
-    pub fn new(rt: &'r HostRuntime) -> Self
-        ensures { result.rt.now ≡ rt.now }
+    /// The files that this program can reach. A ledger that isn't there is made where `makes` says so, and else it is none.
+    pub fn new(rt: &'r HostRuntime, makes: bool) -> Self
+        ensures files { result.rt.now ≡ rt.now }
+        ensures makes { result.makes ≡ makes }
     {
-        SharedFiles { rt }
+        SharedFiles { rt, makes }
     }
 }
 
@@ -141,6 +144,9 @@ impl<'r> Ledgers<SharedFileStore<'r>> for SharedFiles<'r> {
 
     // `InUse` is answered where another delivery is being made from the ledger.
     fn open(&mut self, path: &LedgerPath<'_>) -> Result<SharedFileStore<'r>, NoStore> {
+        if !self.makes {
+            is_there(self.rt, path.text())?;
+        }
         let line = line_of(self.rt, path.text())?;
         let files = DeliveredFiles {
             files: LedgerFiles::new(self.rt),
@@ -268,6 +274,15 @@ impl NewLedgers<FileLedgerStore> for NewFiles<'_> {
     }
 }
 
+// `NoLedger` is answered where nothing is at the path.
+fn is_there(rt: &HostRuntime, path: &str) -> Result<(), NoStore> {
+    match fs::exists(rt, path) {
+        Ok(true) => Ok(()),
+        Ok(false) => Err(NoStore::NoLedger),
+        Err(why) => Err(no_file(&why)),
+    }
+}
+
 fn remove_if_there(rt: &HostRuntime, path: &str) -> io::Result<()> {
     match fs::remove_file(rt, path) {
         Err(why) if why.kind() != ErrorKind::NotFound => Err(why),
@@ -279,7 +294,7 @@ fn remove_if_there(rt: &HostRuntime, path: &str) -> io::Result<()> {
 fn not_made(why: &io::Error) -> NoRenewal {
     match why.kind() {
         ErrorKind::AlreadyExists => NoRenewal::Exists,
-        _ => NoRenewal::NoStore(no_line(why)),
+        _ => NoRenewal::NoStore(no_file(why)),
     }
 }
 
@@ -289,14 +304,14 @@ fn line_of(rt: &HostRuntime, path: &str) -> Result<File, NoStore> {
         Ok(line) => match line.try_lock() {
             Ok(()) => Ok(line),
             Err(TryLockError::WouldBlock) => Err(NoStore::InUse),
-            Err(TryLockError::Error(why)) => Err(no_line(&why)),
+            Err(TryLockError::Error(why)) => Err(no_file(&why)),
         },
-        Err(why) => Err(no_line(&why)),
+        Err(why) => Err(no_file(&why)),
     }
 }
 
-// Why there is no line.
-fn no_line(why: &io::Error) -> NoStore {
+// Why a file beside a ledger, or the ledger's own, can't be used.
+fn no_file(why: &io::Error) -> NoStore {
     match why.kind() {
         ErrorKind::OutOfMemory => NoStore::Memory,
         _ => NoStore::Failed,

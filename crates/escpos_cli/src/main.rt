@@ -111,8 +111,9 @@ fn perform_over<L: PrinterLine + Drop, P: Lines<L>, R: ByteIn, W: ByteOut>(
     ensures not_hidden { result ≢ Status.Device → ¬ IsTrue (W.failed output.old) → ¬ IsTrue (W.failed output.new) }
 {
     let mut ledgers = LedgerFiles::new(rt);
-    let mut shared = SharedFiles::new(rt);
-    let mut news = NewFiles::new(rt, renewed_path(&task));
+    let renewed = renewed_path(&task);
+    let mut shared = SharedFiles::new(rt, renewed.is_none());
+    let mut news = NewFiles::new(rt, renewed.unwrap_or(""));
     perform_till(
         rt.alloc(),
         &mut ledgers,
@@ -125,11 +126,11 @@ fn perform_over<L: PrinterLine + Drop, P: Lines<L>, R: ByteIn, W: ByteOut>(
     )
 }
 
-// Where the ledger is that a task renews; nowhere for another task.
-fn renewed_path<'a>(task: &TillTask<'a>) -> &'a str {
+// Where the ledger is that a task renews, if it renews one.
+fn renewed_path<'a>(task: &TillTask<'a>) -> Option<&'a str> {
     match task {
-        TillTask::Renew { ledger, .. } => ledger.text(),
-        _ => "",
+        TillTask::Renew { ledger, .. } => Some(ledger.text()),
+        _ => None,
     }
 }
 

@@ -10,11 +10,11 @@ use Rattle.escpos_till.specs.declared.book.Book.{Book}
 use Rattle.escpos_till.specs.declared.entry.Entry.{Entry}
 use Rattle.escpos_till.specs.declared.entry.Entry.TheVariants as entry
 use Rattle.escpos_till.specs.declared.entry.Entry.TheVariants.{Queued, Tried, Recorded, Raised, Cancelled}
-use Rattle.escpos_till.specs.declared.machine.Due.{Due}
-use Rattle.escpos_till.specs.declared.machine.Stage.{Stage}
-use Rattle.escpos_till.specs.declared.machine.Stage.TheVariants as stage
-use Rattle.escpos_till.specs.declared.machine.Then.{Then}
-use Rattle.escpos_till.specs.declared.machine.Then.TheVariants as then
+use Rattle.escpos_till.specs.declared.stage.Due.{Due}
+use Rattle.escpos_till.specs.declared.stage.Stage.{Stage}
+use Rattle.escpos_till.specs.declared.stage.Stage.TheVariants as stage
+use Rattle.escpos_till.specs.declared.stage.Then.{Then}
+use Rattle.escpos_till.specs.declared.stage.Then.TheVariants as then
 use Rattle.escpos_till.specs.declared.state.ReceiptState.{ReceiptState}
 use Rattle.escpos_till.specs.declared.state.ReceiptState.TheVariants as state
 use Rattle.escpos_till.specs.declared.store.StoreFault.{StoreFault}

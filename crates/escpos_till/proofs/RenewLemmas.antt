@@ -17,7 +17,7 @@ use Rattle.escpos_till.specs.declared.tries.Try.{Try}
 use Rattle.escpos_till.specs.Book.{IsBookOf}
 use Rattle.escpos_till.specs.Entries.{HasKey, IsLedger, Taken, Waits, cancel_of, cancel_place_of, cancelled, content_of, contents, earlier, earlier_of, is_open, is_try_of, last_number, next_free, numbered_from, place_here, place_of, record_of, recorded, states, taken, times_tried, waiting}
 use Rattle.escpos_till.specs.Keyed.{ListsKey}
-use Rattle.escpos_till.specs.Renewing.{Carried, KeysAgree, Renews, SaysNothing, above, is_carried, tries_above}
+use Rattle.escpos_till.specs.Renewing.{BeginsRenewed, Carried, KeysAgree, Renews, SaysNothing, above, is_carried, tries_above}
 use Rattle.escpos_till.specs.States.{IsEnded}
 use Rattle.escpos_till.specs.Tries.{HasTry, tries, try_of}
 use Rattle.escpos_till.proofs.BookLemmas.{first_waits}
@@ -437,12 +437,13 @@ first_or_none b es book = go (slice_get b.states.items b.first_waiting) refl
     go (Some (state.Recorded place)) is = absurd (book.first_waiting.waits (state.Recorded place) is tt)
     go (Some (state.Cancelled tried)) is = absurd (book.first_waiting.waits (state.Cancelled tried) is tt)
 
-pub renews_so : (b : Book) (es new : List Entry) (last : ℕ) (nb : Book) → IsBookOf b es → last ≡ b.earlier + b.first_waiting → Carried last b.earlier es new → IsLedger new
+pub renews_so : (b : Book) (es new : List Entry) (last : ℕ) (nb : Book) → IsBookOf b es → last ≡ b.earlier + b.first_waiting → Carried last b.earlier es new → BeginsRenewed new → IsLedger new
     → IsBookOf nb new → nb.next ≡ b.next → nb.heard ≡ b.heard → KeysAgree b last nb.keys.items → Renews es new
-renews_so b es new last nb book is c ledger found next heard agree =
+renews_so b es new last nb book is c begins ledger found next heard agree =
     let same = last_same_so b es new last book is c in
     let later : (n : ℕ) → Waits es n → last < n = λ n waits. subst (λ l. l < n) (sym is) (waits_later b es n book waits) in
     record {
+      begins = begins;
       ledger = ledger;
       waiting = waiting_same b es new last book is c;
       waits = λ n. (waits_back last b.earlier es new n (omega (arith, is, book.earlier)) same c, λ waits. waits_on last b.earlier es new n (later n waits) same c waits);

@@ -17,9 +17,17 @@ above last numbers = filter (λ n. nat_lt last n) numbers
 abbrev pub tries_above : ℕ → List Try → List Try
 tries_above last ts = filter (λ t. nat_lt last t.number) ts
 
--- This ledger goes on from the older one. It has the receipts from the first that waits there on, with their numbers, contents and tries, the last
+-- The entries begin with the one that says that they go on from an older ledger. No ledger has that one behind another entry.
+pub record BeginsRenewed (entries : List Entry) : Type 0 where
+  pub last : ℕ
+  pub heard : ℕ
+  pub rest : List Entry
+  pub is : entries ≡ entry.Renewed last heard ∷ rest
+
+-- This ledger goes on from the older one, and says so first. It has the receipts from the first that waits there on, with their numbers, contents and tries, the last
 -- number of a receipt, the next mark number, what is heard of marks, and the keys of its last receipts and of those that wait; the receipts before these it has no more.
 pub record Renews (old new : List Entry) : Type 0 where
+  pub begins : BeginsRenewed new
   pub ledger : IsLedger new
   pub waiting : waiting new ≡ waiting old
   pub waits : (number : ℕ) → Waits new number ↔ Waits old number

@@ -5,15 +5,17 @@
 
 ghost use Rattle.std.specs.Prelude.{◌≡◌, ◌≢◌, ◌≤◌, ◌⊎◌, ℕ, List, [], None, is_some, IfSome};
 ghost use Rattle.escpos_host.specs.Machine.{IsSound};
-ghost use Rattle.escpos_till.specs.declared.machine.Stage.TheVariants as stage;
-ghost use Rattle.escpos_till.specs.declared.machine.Talk.{Talk};
+ghost use Rattle.escpos_till.specs.declared.stage.Stage.TheVariants as stage;
+ghost use Rattle.escpos_till.specs.declared.stage.Talk.{Talk};
 ghost use Rattle.escpos_till.specs.declared.entry.Entry.{Entry};
-ghost use Rattle.escpos_till.specs.declared.machine.Then.{Then};
+ghost use Rattle.escpos_till.specs.declared.stage.Then.{Then};
 ghost use Rattle.escpos_till.specs.Driver.{Deed, IsGiven, IsSaid, IsTelling, KeepsOne, RanQuietly, RanUpTo, Turns};
 ghost use Rattle.escpos_till.specs.Machine.{Rests, entry_with, entry_with_at, news_of};
 ghost use Rattle.escpos_till.specs.Surroundings.{Did};
 
-use crate::machine::{Action, TillMachine, TillNote};
+use crate::machine::TillMachine;
+use crate::note::TillNote;
+use crate::stage::Action;
 use crate::store::{Appended, Store};
 use crate::surroundings::{PrinterLine, Surroundings};
 

@@ -5,7 +5,7 @@
 ghost use Rattle.std.specs.Prelude.{◌≡◌, ◌⊎◌, ◌+◌, ◌++◌, ◌<◌, ◌↔◌, ℕ, List, IfErr, IfOk, OnOk, IsTrue, length};
 ghost use Rattle.std.specs.List.{AllByRecursion};
 ghost use Rattle.escpos_till.specs.declared.entry.Entry.{Entry};
-ghost use Rattle.escpos_till.specs.declared.machine.Stage.TheVariants as stage;
+ghost use Rattle.escpos_till.specs.declared.stage.Stage.TheVariants as stage;
 ghost use Rattle.escpos_till.specs.Book.{HasTryRoom, IsBookOf};
 ghost use Rattle.escpos_till.specs.Entries.{IsLedger};
 ghost use Rattle.escpos_till.specs.Delivers.{most_entries};
@@ -15,10 +15,12 @@ ghost use Rattle.escpos_till.specs.Machine.{Drops, printed};
 
 use crate::book::{Book, MOST_ENTRIES, NoBook};
 use crate::entry::Entry;
+use crate::following::marks_taken;
 use crate::further::{Further, printed_or_further};
-use crate::machine::{Due, Stage, Then, TillNote, marks_taken};
 use crate::memory_store::copies;
+use crate::note::TillNote;
 use crate::number::ReceiptNumber;
+use crate::stage::{Due, Stage, Then};
 use crate::state::ReceiptState;
 use crate::store::StoreFault;
 use crate::talking::printed;

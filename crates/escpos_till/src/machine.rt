@@ -25,215 +25,37 @@
 //! use; and a receipt is recorded only where the host has recorded it. Where the next receipt goes over the same link, both are kept as
 //! one. `specs/Machine.antt` says what each call does.
 
-ghost use Rattle.std.specs.Prelude.{◌≡◌, ◌≢◌, ◌↔◌, ◌-◌, ◌++◌, ◌<◌, ◌≤◌, ◌^◌, ℕ, List, length, take, drop, min, option_map, Ok, IfOk, IfErr, MatchOption, OnOk, IsErrOf, IsTrue};
+ghost use Rattle.std.specs.Prelude.{◌≡◌, ◌≢◌, ◌↔◌, ◌-◌, ◌++◌, ◌<◌, ◌≤◌, List, length, take, drop, min, option_map, Ok, IfOk, IfErr, MatchOption, OnOk, IsErrOf, IsTrue};
 ghost use Rattle.escpos_till.specs.declared.entry.Entry.{Entry};
 ghost use Rattle.escpos_till.specs.Entries.{IsLedger, earlier, states as states_of};
-ghost use Rattle.escpos_till.specs.Book.{HasRoom, HasTryRoom, IsBookOf, Notes};
-ghost use Rattle.escpos_till.specs.declared.machine.Due.{Due};
+ghost use Rattle.escpos_till.specs.Book.{IsBookOf, Notes};
+ghost use Rattle.escpos_till.specs.declared.stage.Due.{Due};
 ghost use Rattle.escpos_host.specs.Machine.{IsSound};
-ghost use Rattle.escpos_till.specs.Delivers.{fresh, marks_taken};
+ghost use Rattle.escpos_till.specs.Delivers.{marks_taken};
 ghost use Rattle.escpos_till.specs.Learning.{FailsToLearn, IfKeeping, Learned, LearnsAll};
-ghost use Rattle.escpos_till.specs.declared.machine.Talk.{Talk};
-ghost use Rattle.escpos_till.specs.Machine.{Asks, AsksIn, Came, Cancels, Delivers, Ended, EndsFinally, Fits, Follows, IsKnown, IsLastFirst, IsLinked, IsNew, IsNext, IsPausing, IsRaisedTo, IsStarted, Kept, MayTry, Queues, Raises, RefusesAny, RefusesCancel, RefusesDeliver, RefusesRaise, Rests, SameEntries, SendsReceipt, Unsure, connected, after_news, ended_by, entry_with_at, first_talk, further_of, hung_up, lost, news_of, not_connected, put, taking, told};
+ghost use Rattle.escpos_till.specs.declared.stage.Talk.{Talk};
+ghost use Rattle.escpos_till.specs.Machine.{Asks, AsksIn, Came, Cancels, Delivers, Ended, EndsFinally, Fits, Follows, IsKnown, IsLinked, IsNew, IsNext, IsPausing, IsStarted, Kept, MayTry, Queues, Raises, RefusesAny, RefusesCancel, RefusesDeliver, RefusesRaise, Rests, SameEntries, SendsReceipt, Unsure, connected, entry_with_at, further_of, hung_up, lost, news_of, not_connected, put, taking, told};
 
 use crate::book::{Book, MOST_ENTRIES, NoBook};
-use crate::copy::{CopyLine, CopyText};
+use crate::copy::CopyText;
 use crate::entry::{Content, Entry};
-use crate::further::Further;
+use crate::following::{
+    following, fresh_host, further_of, last_first, lost, marks_taken, raised, reserve_next, taking,
+};
 use crate::key::ReceiptKey;
 use crate::learning::{learn, revised};
+use crate::note::{NoMachine, TillNote, TillRefusal};
 use crate::number::ReceiptNumber;
-use crate::pause::{Pause, Paused};
 use crate::receipt_content::ReceiptContent;
+use crate::stage::{Action, Due, Stage, Talk, Then};
 use crate::state::ReceiptState;
 use crate::store::StoreFault;
-use crate::talking::{less, opened, sent_next, turned};
+use crate::talking::{less, turned};
 use escpos_host::{Host, SendFault};
-use escpos_receipt::{JsonError, JsonFault, Receipt};
+use escpos_receipt::{JsonError, Receipt};
 use std::alloc::Global;
 use std::marker::Model;
 use std::mem::replace;
-
-// The last mark number that leaves enough for a try, where all marks are answered.
-const LAST_FIRST: u32 = u32::MAX - 2;
-
-const _: () = prove!(LAST_FIRST == 4_294_967_293);
-
-/// What a machine tells its owner.
-#[derive(Clone, Copy, Debug, PartialEq, Eq)]
-pub enum TillNote {
-    /// The receipt is taken, and has this number. If it came with a key that a receipt has, it is that receipt.
-    Queued(ReceiptNumber),
-    /// The next mark number is raised.
-    Raised,
-    /// The receipt is cancelled. It was tried this many times before: if that isn't 0, it may be on the paper.
-    Cancelled {
-        number: ReceiptNumber,
-        tried: usize,
-    },
-    /// The receipt is printed, and recorded. That may be told while the next one is being sent.
-    Recorded(ReceiptNumber),
-    /// There was no link. The receipt waits, and wasn't tried.
-    NoLink(ReceiptNumber),
-    /// The receipt isn't known to be printed. It waits, tried once more.
-    Waiting {
-        number: ReceiptNumber,
-        why: SendFault,
-    },
-    /// The printer says that it prints nothing for now. The receipt is still being sent.
-    Paused {
-        number: ReceiptNumber,
-        why: Pause,
-    },
-    /// The printer printed nothing for as long as may be waited. The receipt waits, tried once more.
-    StillPaused {
-        number: ReceiptNumber,
-        why: Pause,
-    },
-    /// The store couldn't tell whether it kept the entry. The machine has failed.
-    NotKept(StoreFault),
-}
-
-/// Why a call of a machine at rest is refused. The machine is as it was.
-#[derive(Clone, Copy, Debug, PartialEq, Eq)]
-pub enum TillRefusal {
-    /// It asks for something, and that isn't done yet.
-    Busy,
-    /// Its store couldn't tell whether it kept an entry.
-    Failed,
-    /// Out of memory.
-    Memory,
-    /// No receipt waits.
-    NothingWaits,
-    /// The text of the first receipt that waits gives none.
-    NoReceipt {
-        number: ReceiptNumber,
-        why: JsonFault,
-    },
-    /// Too few mark numbers are left for the first receipt that waits.
-    MarksUsedUp {
-        number: ReceiptNumber,
-    },
-    /// The mark number is lower than the next one, which is this.
-    MarkReused {
-        next: u32,
-    },
-    /// The mark number leaves fewer than a try takes. This is the last that leaves enough.
-    MarkTooHigh {
-        last: u32,
-    },
-    /// No receipt with this number was taken.
-    NotTaken(ReceiptNumber),
-    /// The receipt with this number was taken in an older ledger, and is over.
-    Earlier(ReceiptNumber),
-    /// The receipt with this number is recorded.
-    Recorded(ReceiptNumber),
-    /// The receipt with this number is cancelled already.
-    Cancelled(ReceiptNumber),
-}
-
-/// Why there is no machine.
-#[derive(Clone, Copy, Debug, PartialEq, Eq)]
-pub enum NoMachine {
-    /// The entries are no ledger.
-    Damaged,
-    /// Out of memory.
-    Memory,
-}
-
-/// What a machine asks for.
-#[derive(Debug, Drop)]
-pub enum Action<'a> {
-    /// Nothing: it is at rest, or has failed.
-    Nothing,
-    /// This entry is to be kept, so that it outlives a crash. Then it is told `appended`.
-    Append(&'a Entry),
-    /// A link to the printer is to be opened. Then it is told `connected`.
-    Connect,
-    /// The bytes that `take_out` gives are to be put. If they can't be, it is told `link_ended`.
-    Put,
-    /// Answers are to be read, at most so many bytes. Then it is told `came`, or `link_ended`.
-    Wait(u32),
-    /// The link is to be given up. Then it is told `hung_up`.
-    HangUp,
-    /// Its owner is to be told this. Then it is told `told`.
-    Tell(TillNote),
-}
-
-/// A receipt that is to be sent.
-#[derive(Drop)]
-pub struct Due {
-    /// Its number.
-    pub number: ReceiptNumber,
-    /// What is sent of it.
-    pub receipt: Receipt,
-    /// How many opening marks are put; 0 counts as 1.
-    pub openings: u32,
-    /// How many bytes of answers are read at most.
-    pub most: u32,
-    /// How the receipts after it are sent over the same link, if they are to be.
-    pub further: Option<Further>,
-}
-
-/// A receipt that is being sent.
-#[derive(Drop)]
-pub struct Talk {
-    /// Its number.
-    pub number: ReceiptNumber,
-    /// What is sent of it; `None` once the host has it.
-    pub receipt: Option<Receipt>,
-    /// How many bytes of answers may still be read.
-    pub left: u32,
-    /// What the printer has told of its condition.
-    pub paused: Paused,
-    /// How the receipts after it are sent over the same link, if they are to be.
-    pub further: Option<Further>,
-    /// The receipt before it, which is recorded, if the machine's owner is still to be told of that.
-    pub recorded: Option<ReceiptNumber>,
-}
-
-/// What follows once an entry is kept.
-#[derive(Drop)]
-pub enum Then {
-    /// A receipt is taken.
-    Queued,
-    /// A receipt with this content is to be taken: its entry is kept next.
-    Take(Content),
-    /// The next mark number is raised.
-    Raised,
-    /// A receipt is cancelled that was tried so often.
-    Cancelled {
-        number: ReceiptNumber,
-        tried: usize,
-    },
-    /// A receipt is sent.
-    Send(Due),
-    /// A receipt is recorded.
-    Recorded(ReceiptNumber),
-    /// A receipt is recorded, and by that entry, which is kept next, the one is tried that is sent over the same link.
-    GoOn {
-        recorded: ReceiptNumber,
-        tried: Entry,
-        due: Due,
-    },
-    /// A receipt is sent over the link of the one before, which is recorded.
-    SendNext {
-        recorded: ReceiptNumber,
-        due: Due,
-    },
-}
-
-/// Where a machine stands.
-#[derive(Drop)]
-pub enum Stage {
-    AtRest,
-    Connecting(Due),
-    Keeping { entry: Entry, then: Then },
-    Talking(Talk),
-    HangingUp(TillNote),
-    Telling(TillNote),
-    Failed,
-}
 
 /// The machine of a till with one printer.
 #[derive(Drop)]
@@ -242,68 +64,6 @@ pub struct TillMachine {
     book: Book,
     host: Host,
     stage: Stage,
-}
-
-impl Talk {
-    /// A talk that begins.
-    pub(crate) fn first(due: Due) -> Self
-        ensures { result ≡ first_talk due }
-    {
-        Talk {
-            number: due.number,
-            receipt: Some(due.receipt),
-            left: due.most,
-            paused: Paused::not(),
-            further: due.further,
-            recorded: None,
-        }
-    }
-
-    // What the machine's owner is to be told, if there is something.
-    fn news(&self) -> Option<TillNote>
-        ensures { result ≡ news_of self.now }
-    {
-        if let Some(recorded) = self.recorded {
-            return Some(TillNote::Recorded(recorded));
-        }
-        match self.paused {
-            Paused {
-                why: Some(why),
-                is_news: true,
-            } => Some(TillNote::Paused {
-                number: self.number,
-                why,
-            }),
-            _ => None,
-        }
-    }
-
-    // Its owner knows what was news.
-    fn told(&mut self)
-        ensures { self.new ≡ after_news self.old.recorded self.old }
-    {
-        if self.recorded.is_some() {
-            self.recorded = None;
-        } else {
-            self.paused.is_news = false;
-        }
-    }
-
-    // What its end means: a printer that pauses was waited for as long as may be.
-    fn ended(&self, why: SendFault) -> TillNote
-        ensures { result ≡ ended_by self.now why }
-    {
-        match (why, self.paused.why) {
-            (SendFault::TimedOut, Some(why)) => TillNote::StillPaused {
-                number: self.number,
-                why,
-            },
-            _ => TillNote::Waiting {
-                number: self.number,
-                why,
-            },
-        }
-    }
 }
 
 impl Model for TillMachine {
@@ -776,138 +536,4 @@ impl TillMachine {
     {
         self.book.next
     }
-}
-
-// Makes room for the try of a receipt that may go over the link of one that is sent now. Where there is none, no receipt does.
-fn reserve_next(book: &mut Book, then: &Then)
-    ensures same { (entries : List Entry) → IsBookOf book.old entries → IsBookOf book.new entries }
-    ensures kept { HasRoom book.old → HasRoom book.new }
-    ensures try_kept { (number : ℕ) (tried : Entry) (due : Due) → then.now ≡ Then.GoOn number tried due → HasTryRoom book.old → HasTryRoom book.new }
-    ensures count { length book.new.states.items ≡ length book.old.states.items }
-    ensures next { book.new.next ≡ book.old.next }
-{
-    if let Then::Send(_) | Then::SendNext { .. } = then {
-        let _ = book.reserve_try();
-    }
-}
-
-// What is to be kept first of a receipt with this content, which comes with this key or with none.
-fn taking(book: &Book, key: Option<ReceiptKey>, content: Content) -> Stage
-    ensures { result ≡ taking key book.now.last_key book.now.next content }
-{
-    let entry = match key {
-        Some(key) => Entry::Key { key },
-        None if book.last_key.is_some() => Entry::Raised {
-            next: book.next,
-            heard: 0,
-        },
-        None => {
-            return Stage::Keeping {
-                entry: Entry::Queued { content },
-                then: Then::Queued,
-            };
-        }
-    };
-    Stage::Keeping {
-        entry,
-        then: Then::Take(content),
-    }
-}
-
-// What follows where the store couldn't tell whether it kept an entry. A link is given up first.
-fn lost(then: Then, why: StoreFault) -> Stage
-    ensures { result ≡ lost then why }
-{
-    match then {
-        Then::Queued | Then::Take(_) | Then::Raised | Then::Cancelled { .. } => {
-            Stage::Telling(TillNote::NotKept(why))
-        }
-        Then::Send(_) | Then::Recorded(_) | Then::GoOn { .. } | Then::SendNext { .. } => {
-            Stage::HangingUp(TillNote::NotKept(why))
-        }
-    }
-}
-
-// What follows once an entry is kept, where this mark number was the next before.
-fn following(alloc: Global, book: &Book, host: &mut Host, first: u32, then: Then) -> Stage
-    requires { then ≡ Then.Queued → 0 < length book.now.states.items }
-    ensures { Follows then host.old first book.now host.new result }
-{
-    match then {
-        Then::Queued => Stage::Telling(TillNote::Queued(book.last_number())),
-        Then::Take(content) => Stage::Keeping {
-            entry: Entry::Queued { content },
-            then: Then::Queued,
-        },
-        Then::Raised => Stage::Telling(TillNote::Raised),
-        Then::Cancelled { number, tried } => Stage::Telling(TillNote::Cancelled { number, tried }),
-        Then::Send(due) => {
-            *host = fresh_host(alloc, first, book.heard);
-            opened(host, due)
-        }
-        Then::Recorded(number) => {
-            host.link_down();
-            Stage::HangingUp(TillNote::Recorded(number))
-        }
-        Then::GoOn {
-            recorded,
-            tried,
-            due,
-        } => Stage::Keeping {
-            entry: tried,
-            then: Then::SendNext { recorded, due },
-        },
-        Then::SendNext { recorded, due } => sent_next(host, recorded, due),
-    }
-}
-
-// How the receipts after one are sent over the same link, if they are to be.
-fn further_of(further: bool, most: u32, copy: Option<&CopyText<'_>>) -> Option<Further>
-    ensures { result ≡ further_of further most (option_map (λ t. t.now) copy.entry) }
-{
-    if !further {
-        return None;
-    }
-    Some(Further {
-        most,
-        copy: match copy {
-            Some(text) => Some(CopyLine::of(text)),
-            None => None,
-        },
-    })
-}
-
-/// How many mark numbers a try takes: one for each opening mark, at least one, and one for the closing mark. If that can't be counted,
-/// it is more than there are.
-pub(crate) fn marks_taken(openings: u32) -> u32
-    ensures { result ≡ min (marks_taken openings) (2 ^ 32 - 1) }
-{
-    openings.max(1).saturating_add(1)
-}
-
-// A host that has sent nothing yet, and knows that no mark of older hosts below a number can be answered any more.
-fn fresh_host(alloc: Global, first: u32, heard: u32) -> Host
-    ensures { result ≡ fresh first heard }
-{
-    Host::resume(alloc, first, heard, Vec::new(alloc))
-}
-
-// The last number to which the next one may be raised.
-fn last_first(book: &Book) -> u32
-    ensures { IsLastFirst book.now result }
-{
-    if book.heard == book.next {
-        LAST_FIRST
-    } else {
-        book.mark_limit() - 2
-    }
-}
-
-// That the next mark number is raised to this one; and, where that is higher than is allowed otherwise, that no mark below it can be answered.
-fn raised(book: &Book, first: u32) -> Entry
-    ensures { IsRaisedTo book.now first result }
-{
-    let passes = book.heard == book.next && first > book.mark_limit() - 2;
-    let heard = if passes { first } else { 0 };
-    Entry::Raised { next: first, heard }
 }

@@ -8,7 +8,7 @@ ghost use Rattle.escpos_till.specs.declared.entry.Entry.{Entry};
 ghost use Rattle.escpos_till.specs.Book.{IsBookOf};
 ghost use Rattle.escpos_till.specs.Entries.{IsLedger, content_of, contents, earlier, last_number};
 ghost use Rattle.escpos_till.specs.Keyed.{ListsKey};
-ghost use Rattle.escpos_till.specs.Renewing.{Carried, KeysAgree, Renews, SaysNothing, is_carried};
+ghost use Rattle.escpos_till.specs.Renewing.{BeginsRenewed, Carried, KeysAgree, Renews, SaysNothing, is_carried};
 
 use crate::book::{Book, NoBook};
 use crate::entry::Entry;
@@ -187,17 +187,28 @@ fn is_carried(entry: &Entry, skip: u32, last: u32) -> bool
     }
 }
 
-// Refuses what is no ledger, or has other keys, another next mark number or other marks heard than the one with this book.
+// Refuses what is no ledger, doesn't begin as one that goes on from another, or has other keys, another next mark number or other marks heard than the one with this book.
 fn check_renewed(alloc: Global, book: &Book, last: u32, new: &[Entry]) -> Result<(), NotRenewed>
+    ensures begins { OnOk result (BeginsRenewed new.now) }
     ensures ledger { OnOk result (IsLedger new.now) }
     ensures agrees { OnOk result ((b : _) × IsBookOf b new.now × (b.next ≡ book.now.next) × (b.heard ≡ book.now.heard) × KeysAgree book.now last b.keys.items) }
     ensures unlike { IfErr result (λ why. (why ≢ NotRenewed.Damaged) × (why ≢ NotRenewed.TooMany)) }
 {
+    if !begins_renewed(new) {
+        return Err(NotRenewed::Failed);
+    }
     match Book::of(alloc, new) {
         Ok(found) if has_marks_of(book, &found) && keys_agree(book, last, &found) => Ok(()),
         Ok(_) | Err(NoBook::Damaged) => Err(NotRenewed::Failed),
         Err(NoBook::Memory) => Err(NotRenewed::Memory),
     }
+}
+
+// Whether the entries begin with the one that says that they go on from an older ledger.
+fn begins_renewed(entries: &[Entry]) -> bool
+    ensures { IsTrue result → BeginsRenewed entries.now }
+{
+    matches!(entries, [Entry::Renewed { .. }, ..])
 }
 
 // Whether the second book has the next mark number of the first one, and what is heard.

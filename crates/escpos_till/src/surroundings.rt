@@ -4,7 +4,7 @@
 //! left to the types that implement `PrinterLine`.
 
 ghost use Rattle.std.specs.Prelude.{◌≡◌, ◌≤◌, ℕ, length, take, option_map, IfErr, IfOk, OnOk, IsTrue};
-ghost use Rattle.escpos_till.specs.declared.machine.TillNote.{TillNote};
+ghost use Rattle.escpos_till.specs.declared.note.TillNote.{TillNote};
 ghost use Rattle.escpos_till.specs.declared.pause.Pause.{Pause};
 ghost use Rattle.escpos_till.specs.Driver.{Breaks, Confirms, Deed, Ends, Gives, HangsUp, Keeps, Learns, Links, Loses, Misses, Pauses, Puts, Tells};
 ghost use Rattle.escpos_till.specs.Appending.{IfDone, IfOthers};

@@ -13,9 +13,10 @@ ghost use Rattle.escpos_till.specs.Machine.{Drops, GoesOn, Hears, IsGoingOn, Ope
 use crate::book::Book;
 use crate::entry::Entry;
 use crate::further::printed_or_further;
-use crate::machine::{Due, Stage, Talk, Then, TillNote};
+use crate::note::TillNote;
 use crate::number::ReceiptNumber;
 use crate::pause::Paused;
+use crate::stage::{Due, Stage, Talk, Then};
 use crate::tries::closes_try;
 use escpos_command::AutomaticStatus;
 use escpos_host::{Host, HostError, HostEvent, SendFault, open_link_reporting};

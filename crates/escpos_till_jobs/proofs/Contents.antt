@@ -15,11 +15,11 @@ at_place [] i content is = absurd cc
 at_place (e ∷ es) zero content is = ap (λ (x : Entry). slice_get (contents (x ∷ es)) 0) (same_Some e (Queued content) is)
 at_place (Queued other ∷ es) (suc i) content is = at_place es i content is
 at_place (Tried number next ∷ es) (suc i) content is = at_place es i content is
-at_place (Recorded number ∷ es) (suc i) content is = at_place es i content is
-at_place (Raised next ∷ es) (suc i) content is = at_place es i content is
+at_place (Recorded number h ∷ es) (suc i) content is = at_place es i content is
+at_place (Raised next h ∷ es) (suc i) content is = at_place es i content is
 at_place (Cancelled number ∷ es) (suc i) content is = at_place es i content is
 at_place (Key key ∷ es) (suc i) content is = at_place es i content is
-at_place (Renewed last ∷ es) (suc i) content is = at_place es i content is
+at_place (Renewed last h ∷ es) (suc i) content is = at_place es i content is
 at_place (Earlier number key ∷ es) (suc i) content is = at_place es i content is
 
 -- One entry more has its own contents.
@@ -33,21 +33,21 @@ one_entry_more es i e inside is =
 pub no_content : (e : Entry) → content_of e ≡ None → length (contents (e ∷ [])) ≡ 0
 no_content (Queued content) none = absurd cc
 no_content (Tried number next) none = refl
-no_content (Recorded number) none = refl
-no_content (Raised next) none = refl
+no_content (Recorded number h) none = refl
+no_content (Raised next h) none = refl
 no_content (Cancelled number) none = refl
 no_content (Key key) none = refl
-no_content (Renewed last) none = refl
+no_content (Renewed last h) none = refl
 no_content (Earlier number key) none = refl
 
 pub is_queued : (e : Entry) (content : Content) → content_of e ≡ Some content → e ≡ Queued content
 is_queued (Queued other) content is = ap Queued (same_Some other content is)
 is_queued (Tried number next) content is = absurd cc
-is_queued (Recorded number) content is = absurd cc
-is_queued (Raised next) content is = absurd cc
+is_queued (Recorded number h) content is = absurd cc
+is_queued (Raised next h) content is = absurd cc
 is_queued (Cancelled number) content is = absurd cc
 is_queued (Key key) content is = absurd cc
-is_queued (Renewed last) content is = absurd cc
+is_queued (Renewed last h) content is = absurd cc
 is_queued (Earlier number key) content is = absurd cc
 
 pub one_content : (e : Entry) (content : Content) → content_of e ≡ Some content → length (contents (e ∷ [])) ≡ 1

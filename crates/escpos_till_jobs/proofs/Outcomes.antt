@@ -1,5 +1,5 @@
 -- What came of a call that was driven.
-use Rattle.escpos_till.specs.declared.machine.TillRefusal.{TillRefusal}
+use Rattle.escpos_till.specs.declared.note.TillRefusal.{TillRefusal}
 use Rattle.escpos_till.specs.Driver.{Call, Calls, Deed}
 use Rattle.escpos_till.specs.Machine.{MachineView}
 use Rattle.escpos_till_jobs.specs.declared.outcome.Outcome.{Outcome}

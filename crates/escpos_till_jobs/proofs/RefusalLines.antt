@@ -2,7 +2,7 @@
 use Rattle.std.proofs.Common.{ℕ, ◌≡◌, List, sym, subst, subst₂}
 use Rattle.escpos_jobs.specs.declared.status.Status.TheVariants.{Refused}
 use Rattle.escpos_jobs.specs.Ending.{JobEnd, Tells}
-use Rattle.escpos_till.specs.declared.machine.TillRefusal.{TillRefusal}
+use Rattle.escpos_till.specs.declared.note.TillRefusal.{TillRefusal}
 use Rattle.escpos_till_jobs.specs.Lines.{refusal_status, refusal_text}
 
 pub tells_number : (o : JobEnd) (line : ℕ → List ℕ) (refusal : ℕ → TillRefusal) (why : TillRefusal) (n m : ℕ) → why ≡ refusal n → m ≡ n → refusal_text (refusal n) ≡ line n → refusal_status (refusal n) ≡ Refused

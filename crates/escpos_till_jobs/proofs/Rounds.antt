@@ -4,8 +4,8 @@ use Rattle.std.proofs.KnownBytes.{Appends-trans}
 use Rattle.escpos_jobs.specs.Ending.{Tells}
 use Rattle.escpos_jobs.specs.declared.status.Status.{Status}
 use Rattle.escpos_jobs.specs.declared.status.Status.TheVariants.{Device, Good}
-use Rattle.escpos_till.specs.declared.machine.TillNote.{TillNote}
-use Rattle.escpos_till.specs.declared.machine.TillNote.TheVariants as note
+use Rattle.escpos_till.specs.declared.note.TillNote.{TillNote}
+use Rattle.escpos_till.specs.declared.note.TillNote.TheVariants as note
 use Rattle.escpos_till.specs.Driver.{Deed, ServesAll}
 use Rattle.escpos_till.specs.Machine.{MachineView, RefusesDeliver}
 use Rattle.escpos_till_jobs.specs.Delivering.{DeliversAndTells, IsSettled, RoundEnds, RoundGoes, Rounds, asked, served_by}

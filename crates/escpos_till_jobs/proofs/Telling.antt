@@ -2,10 +2,8 @@
 use Rattle.std.proofs.Common.{ℕ, Bool, true, false, ◌≡◌, ◌+◌, ◌≤◌, List, [], ◌∷◌, ◌++◌, length, inl, inr, refl, sym, ◌∙◌, ap, subst, arith, append-nil, append_assoc, length-append}
 use Rattle.std.specs.Prelude.{IsTrue, ◌⊎◌}
 use Rattle.std.proofs.KnownBytes.{Appends-trans}
-use Rattle.escpos_till.specs.declared.machine.TillNote.{TillNote}
-use Rattle.escpos_till.specs.declared.machine.TillNote.TheVariants as note
-use Rattle.escpos_till.specs.declared.machine.TillRefusal.{TillRefusal}
-use Rattle.escpos_till.specs.declared.pause.Pause.{Pause}
+use Rattle.escpos_till.specs.declared.note.TillNote.{TillNote}
+use Rattle.escpos_till.specs.declared.note.TillRefusal.{TillRefusal}
 use Rattle.escpos_till.specs.Driver.{Breaks, Call, Calls, Confirms, Deed, DidAll, Ends, Gives, HangsUp, IsSaid, IsTold, Keeps, Learns, Links, Loses, Misses, Pauses, Puts, RanQuietly, RanUpTo, SaysNothing, Tells, TellsNothing}
 use Rattle.escpos_till.proofs.DriverLemmas.{not_told as says_and_tells_nothing}
 use Rattle.escpos_till.specs.Machine.{MachineView, Rests}

@@ -4,8 +4,8 @@ use Rattle.escpos_jobs.specs.declared.send.TheConstants.{ANSWERS_LIMIT}
 use Rattle.escpos_jobs.specs.declared.status.Status.{Status}
 use Rattle.escpos_jobs.specs.declared.status.Status.TheVariants.{Good, Device}
 use Rattle.escpos_jobs.specs.Ending.{Tells}
-use Rattle.escpos_till.specs.declared.machine.TillNote.{TillNote}
-use Rattle.escpos_till.specs.declared.machine.TillRefusal.{TillRefusal}
+use Rattle.escpos_till.specs.declared.note.TillNote.{TillNote}
+use Rattle.escpos_till.specs.declared.note.TillRefusal.{TillRefusal}
 use Rattle.escpos_till.specs.Driver.{Answered, Call, Deed, Deliver, Serves}
 use Rattle.escpos_till.specs.Machine.{MachineView, RefusesDeliver}
 use Rattle.escpos_till_jobs.specs.declared.deliver.Delivery.{Delivery}

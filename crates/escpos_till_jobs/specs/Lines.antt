@@ -8,10 +8,10 @@ use Rattle.escpos_jobs.specs.Ending.{memory_line}
 use Rattle.escpos_jobs.specs.Send.{is_memory_fault, status_of_fault}
 use Rattle.escpos_receipt.specs.Refusals.{json_name}
 use Rattle.escpos_till.specs.declared.entry.Entry.{Entry}
-use Rattle.escpos_till.specs.declared.machine.TillNote.{TillNote}
-use Rattle.escpos_till.specs.declared.machine.TillNote.TheVariants as note
-use Rattle.escpos_till.specs.declared.machine.TillRefusal.{TillRefusal}
-use Rattle.escpos_till.specs.declared.machine.TillRefusal.TheVariants as refusal
+use Rattle.escpos_till.specs.declared.note.TillNote.{TillNote}
+use Rattle.escpos_till.specs.declared.note.TillNote.TheVariants as note
+use Rattle.escpos_till.specs.declared.note.TillRefusal.{TillRefusal}
+use Rattle.escpos_till.specs.declared.note.TillRefusal.TheVariants as refusal
 use Rattle.escpos_till.specs.declared.pause.Pause.{Pause}
 use Rattle.escpos_till.specs.declared.state.ReceiptState.{ReceiptState}
 use Rattle.escpos_till.specs.declared.state.ReceiptState.TheVariants as state

@@ -1,7 +1,7 @@
 -- What is printed while a call goes on: a line for each pause of the printer, and for each receipt that is recorded while the next one is
 -- being sent.
 use Rattle.std.specs.Prelude.{Bool, true, false, ◌≡◌, ℕ, List, [], ◌∷◌, ◌++◌, IsTrue}
-use Rattle.escpos_till.specs.declared.machine.TillRefusal.{TillRefusal}
+use Rattle.escpos_till.specs.declared.note.TillRefusal.{TillRefusal}
 use Rattle.escpos_till.specs.Driver.{Call, Confirms, Deed, GivesUp, Pauses, RanFor, RanTo, Serves}
 use Rattle.escpos_till.specs.Machine.{MachineView, SameEntries}
 use Rattle.escpos_till_jobs.specs.declared.following.Followed.{Followed}

@@ -3,9 +3,9 @@ use Rattle.std.specs.Prelude.{ℕ, ◌≡◌, ◌≢◌, ◌⊎◌, Option, Some
 use Rattle.escpos_jobs.specs.declared.status.Status.TheVariants.{Good, Device}
 use Rattle.escpos_jobs.specs.Ending.{JobEnd, Tells}
 use Rattle.escpos_till.specs.declared.entry.Entry.{Entry}
-use Rattle.escpos_till.specs.declared.machine.TillNote.{TillNote}
-use Rattle.escpos_till.specs.declared.machine.TillNote.TheVariants as note
-use Rattle.escpos_till.specs.declared.machine.TillRefusal.{TillRefusal}
+use Rattle.escpos_till.specs.declared.note.TillNote.{TillNote}
+use Rattle.escpos_till.specs.declared.note.TillNote.TheVariants as note
+use Rattle.escpos_till.specs.declared.note.TillRefusal.{TillRefusal}
 use Rattle.escpos_till.specs.Book.{IsBookOf}
 use Rattle.escpos_till.specs.Driver.{Call, Deed, GivesUp, Raise, RanFor, RanTo, Serves}
 use Rattle.escpos_till.specs.Machine.{MachineView, RefusesRaise, SameEntries}

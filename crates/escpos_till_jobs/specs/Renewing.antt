@@ -7,7 +7,9 @@ use Rattle.escpos_till.specs.declared.entry.Entry.{Entry}
 use Rattle.escpos_till.specs.declared.state.ReceiptState.{ReceiptState}
 use Rattle.escpos_till.specs.declared.state.ReceiptState.TheVariants as state
 use Rattle.escpos_till.specs.declared.store.NoStore.{NoStore}
-use Rattle.escpos_till.specs.Entries.{states}
+use Rattle.escpos_till.specs.declared.store.NoStore.TheVariants as store
+use Rattle.escpos_till.specs.Entries.{IsLedger, states}
+use Rattle.escpos_till.specs.Learning.{AreOthers}
 use Rattle.escpos_till.specs.Renewing.{Renews}
 use Rattle.escpos_till_jobs.specs.declared.renew.NoRenewal.{NoRenewal}
 use Rattle.escpos_till_jobs.specs.declared.renew.NoRenewal.TheVariants as why
@@ -45,6 +47,17 @@ pub record NewPlace (N S : Type 0) : Type 1 where
 abbrev pub new_place : {N S : Type 0} → (N → List ℕ → Result S NoRenewal → N → Type 0) → (N → S → List ℕ → Result (Unit {0}) NoRenewal → N → Type 0) → (S → Type 0) → (S → List Entry → Type 0) → NewPlace N S
 new_place begun finished faithful holds = record { begun = begun; finished = finished; faithful = faithful; holds = holds }
 
+-- Why a ledger isn't renewed is what a store failed for.
+abbrev pub IsStoresOwn : NoRenewal → Type 0
+IsStoresOwn none = (none ≡ why.NoStore store.Failed) ⊎ (none ≡ why.NoStore store.Memory)
+
+-- These entries aren't written at the path, for this reason: no store is begun there; or one is, and fails; or it has them, and gets no name.
+abbrev pub IsUnwritten : {N S : Type 0} → NewPlace N S → N → List ℕ → List Entry → NoRenewal → N → Type 0
+IsUnwritten {N} {S} p news path entries none after =
+    p.begun news path (Err none) after
+    ⊎ ((begun : S) × p.begun news path (Ok begun) after × IsStoresOwn none)
+    ⊎ ((begun written : S) × (mid : N) × p.begun news path (Ok begun) mid × (p.faithful written → p.holds written entries) × p.finished mid written path (Err none) after)
+
 -- A new store was begun, these entries were written to it, and then it got its name.
 pub record Writes {N S : Type 0} (p : NewPlace N S) (news : N) (path : List ℕ) (entries : List Entry) (after : N) : Type 0 where
   pub begun : S
@@ -65,21 +78,41 @@ is_waiting (state.Cancelled tried) = false
 abbrev pub count_waiting : List Entry → ℕ
 count_waiting entries = count_by is_waiting (states entries)
 
--- From the ledger in the store a new one went on, in which so many receipts wait, which was written at the path; and then the store had an entry more, after which it is no ledger.
+-- What ends the older ledger: the first entry of the new one, twice.
+abbrev pub ending : List Entry → List Entry
+ending [] = []
+ending (first ∷ rest) = first ∷ first ∷ []
+
+-- From the ledger in the store a new one went on, in which so many receipts wait, which was written at the path; and then the store had its ending more, after which it is no ledger.
 pub record RenewsTo {T N S : Type 0} (faithful : T → Type 0) (holds : T → List Entry → Type 0) (p : NewPlace N S) (old : T) (news : N) (path : List ℕ) (waiting : ℕ) (after : T) (news_after : N) : Type 0 where
   pub new : List Entry
   pub mid : T
   pub reads : ReadsRenewed faithful holds old new mid
   pub waiting_is : waiting ≡ count_waiting new
   pub writes : Writes p news path new news_after
-  pub first : Entry
-  pub rest : List Entry
-  pub new_is : new ≡ first ∷ rest
-  pub marked : Has faithful holds mid (first ∷ first ∷ []) after
+  pub marked : Has faithful holds mid (ending new) after
+  pub no_ledger : (before : List Entry) → IsLedger (before ++ ending new) → ⊥
 
--- The older ledger is as it was, or a new one is written and has its name.
-abbrev pub KeepsOne : {T N S : Type 0} → (T → Type 0) → (T → List Entry → Type 0) → (T → List Entry → Type 0) → NewPlace N S → T → N → List ℕ → T → N → Type 0
-KeepsOne faithful holds leaves p old news path after news_after = LeavesSame faithful holds leaves old after ⊎ ((new : List Entry) × Writes p news path new news_after)
+-- The store isn't read as a ledger that can be renewed, for this reason. What it held is no ledger, where that is the reason.
+pub record IsUnread {T : Type 0} (faithful : T → Type 0) (holds leaves : T → List Entry → Type 0) (old : T) (none : NoStore) (after : T) : Type 0 where
+  pub same : LeavesSame faithful holds leaves old after
+  pub no_ledger : none ≡ store.NoLedger → (entries : List Entry) × (faithful after → holds old entries) × (IsLedger entries → ⊥)
+  pub never_in_use : none ≡ store.InUse → ⊥
+
+-- The store may have these entries more, both or neither; or others that somebody added before.
+abbrev pub MayHave : {T : Type 0} → (T → Type 0) → (T → List Entry → Type 0) → (T → List Entry → Type 0) → T → List Entry → T → Type 0
+MayHave faithful holds leaves old entries after =
+    faithful after → (before left : List Entry) → holds old before → leaves after left
+    → (left ≡ before) ⊎ (left ≡ before ++ entries) ⊎ ((others : List Entry) × AreOthers before others × (left ≡ before ++ others))
+
+-- The ledger in the store isn't renewed, for this reason: it isn't read; or the new one isn't written, and it is as it was; or the new one is, and
+-- the store may have its ending.
+abbrev pub KeepsOne : {T N S : Type 0} → (T → Type 0) → (T → List Entry → Type 0) → (T → List Entry → Type 0) → NewPlace N S → T → N → List ℕ → NoRenewal → T → N → Type 0
+KeepsOne {T} faithful holds leaves p old news path none after news_after =
+    ((unread : NoStore) × (none ≡ why.NoStore unread) × (news_after ≡ news) × IsUnread faithful holds leaves old unread after)
+    ⊎ ((new : List Entry) × ReadsRenewed faithful holds old new after × IsUnwritten p news path new none news_after)
+    ⊎ ((new : List Entry) × (mid : T) × ReadsRenewed faithful holds old new mid × Writes p news path new news_after × MayHave faithful holds leaves mid (ending new) after
+    × IsStoresOwn none)
 
 -- So many receipts wait in the new ledger.
 abbrev pub renewed_line : ℕ → List ℕ
@@ -99,5 +132,5 @@ RenewsAt {G} {T} p np shared news before after news_after end status path new =
     ((none : NoStore) × p.opened shared path (Err none) after × (news_after ≡ news) × Tells (ended before end status) (no_store_line none) (no_store_status none))
     ⊎ ((opened left : T) × (mid : G) × p.opened shared path (Ok opened) mid × p.closed mid left after
     × (((waiting : ℕ) × RenewsTo p.faithful p.holds np opened news new waiting left news_after × Tells (ended before end status) (renewed_line waiting) Good)
-    ⊎ ((none : NoRenewal) × KeepsOne p.faithful p.holds p.leaves np opened news new left news_after
+    ⊎ ((none : NoRenewal) × KeepsOne p.faithful p.holds p.leaves np opened news new none left news_after
     × Tells (ended before end status) (no_renewal_line none) (no_renewal_status none))))

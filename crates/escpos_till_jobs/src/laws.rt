@@ -2,7 +2,7 @@
 
 ghost use Rattle.std.specs.Prelude.{List};
 ghost use Rattle.escpos_till.specs.declared.surroundings.Surroundings.{Surroundings};
-ghost use Rattle.escpos_till.specs.declared.machine.TillNote.{TillNote};
+ghost use Rattle.escpos_till.specs.declared.note.TillNote.{TillNote};
 ghost use Rattle.escpos_till.specs.Driver.{ServesAll};
 ghost use Rattle.escpos_till.specs.Machine.{MachineView};
 ghost use Rattle.escpos_till.specs.Surroundings.{Did};

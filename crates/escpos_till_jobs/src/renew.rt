@@ -3,12 +3,13 @@
 //! The new ledger is written under another name, and gets its own once it is whole. Then the older one has the first entry of the new one at its end,
 //! twice: so it is no ledger any more, and nobody delivers or takes a receipt with it.
 
-ghost use Rattle.std.specs.Prelude.{◌≡◌, ◌≢◌, ◌⊎◌, ◌∷◌, ℕ, [], List, Result, IfErr, IfOk, OnErr, OnOk, IsTrue, count_by, option_map};
+ghost use Rattle.std.specs.Prelude.{◌≡◌, ◌≢◌, ℕ, List, Result, IfErr, IfOk, IsErrOf, OnErr, OnOk, IsTrue, count_by, option_map};
 ghost use Rattle.escpos_jobs.specs.Ending.{Tells, job_end};
 ghost use Rattle.escpos_till.specs.Appending.{added};
+ghost use Rattle.escpos_till.specs.Entries.{IsLedger};
 ghost use Rattle.escpos_till_jobs.specs.Outputs.{output_of};
 ghost use Rattle.escpos_till_jobs.specs.Words.{place};
-ghost use Rattle.escpos_till_jobs.specs.Renewing.{Has, KeepsOne, LeavesSame, ReadsRenewed, count_waiting, is_waiting, RenewsAt, RenewsTo, Writes, new_place, no_renewal_line, no_renewal_status, renewed_line};
+ghost use Rattle.escpos_till_jobs.specs.Renewing.{Has, IsUnread, IsUnwritten, KeepsOne, MayHave, ReadsRenewed, RenewsAt, RenewsTo, Writes, count_waiting, ending, is_waiting, new_place, no_renewal_line, no_renewal_status, renewed_line};
 
 use crate::opening::{no_store, refuse_store};
 use crate::outcome::{tell_number, tell_text};
@@ -101,43 +102,49 @@ fn renew_to<T: Store, S: Store + Drop, N: NewLedgers<S>>(
     path: &LedgerPath<'_>,
 ) -> Result<usize, NoRenewal>
     ensures renews { IfOk result (λ waiting. RenewsTo T.faithful T.holds (new_place N.begun N.finished S.faithful S.holds) store.old news.old path.now waiting store.new news.new) }
-    ensures kept { IfErr result (λ _. KeepsOne T.faithful T.holds T.leaves (new_place N.begun N.finished S.faithful S.holds) store.old news.old path.now store.new news.new) }
+    ensures kept { IfErr result (λ none. KeepsOne T.faithful T.holds T.leaves (new_place N.begun N.finished S.faithful S.holds) store.old news.old path.now none store.new news.new) }
 {
-    let new = match read_renewed(alloc, store) {
-        Ok(new) => new,
+    let (new, waiting) = match read_renewed(alloc, store) {
+        Ok(read) => read,
         Err(why) => return Err(NoRenewal::NoStore(why)),
     };
-    let waiting = match count_waiting(alloc, &new) {
-        Ok(waiting) => waiting,
-        Err(why) => return Err(NoRenewal::NoStore(why)),
-    };
-    write_new(alloc, news, path, &new)?;
+    match write_new(alloc, news, path, &new) {
+        Ok(()) => (),
+        Err(why) => return Err(why),
+    }
     match end_ledger(store, &new) {
         Ok(()) => Ok(waiting),
         Err(fault) => Err(NoRenewal::NoStore(no_store(fault))),
     }
 }
 
-// The ledger that goes on from the one in a store.
-fn read_renewed<T: Store>(alloc: Global, store: &mut T) -> Result<Vec<Entry>, NoStore>
-    ensures reads { IfOk result (λ new. ReadsRenewed T.faithful T.holds store.old new.items store.new) }
-    ensures left { OnErr result (LeavesSame T.faithful T.holds T.leaves store.old store.new) }
+// The ledger that goes on from the one in a store, and how many receipts wait in it.
+fn read_renewed<T: Store>(alloc: Global, store: &mut T) -> Result<(Vec<Entry>, usize), NoStore>
+    ensures reads { IfOk result (λ read. ReadsRenewed T.faithful T.holds store.old read.0.items store.new) }
+    ensures count { IfOk result (λ read. read.1 ≡ count_waiting read.0.items) }
+    ensures unread { IfErr result (λ none. IsUnread T.faithful T.holds T.leaves store.old none store.new) }
 {
     let entries = match store.entries(alloc) {
         Ok(entries) => entries,
         Err(fault) => return Err(no_store(fault)),
     };
-    match renewed(alloc, &entries) {
-        Ok(new) => Ok(new),
-        Err(NotRenewed::Damaged) => Err(NoStore::NoLedger),
-        Err(NotRenewed::TooMany | NotRenewed::Failed) => Err(NoStore::Failed),
-        Err(NotRenewed::Memory) => Err(NoStore::Memory),
+    let new = match renewed(alloc, &entries) {
+        Ok(new) => new,
+        Err(NotRenewed::Damaged) => return Err(NoStore::NoLedger),
+        Err(NotRenewed::TooMany | NotRenewed::Failed) => return Err(NoStore::Failed),
+        Err(NotRenewed::Memory) => return Err(NoStore::Memory),
+    };
+    match count_waiting(alloc, &new) {
+        Ok(waiting) => Ok((new, waiting)),
+        Err(why) => Err(why),
     }
 }
 
 // How many receipts of a ledger wait.
 fn count_waiting(alloc: Global, entries: &[Entry]) -> Result<usize, NoStore>
     ensures count { IfOk result (λ waiting. waiting ≡ count_waiting entries.now) }
+    ensures no_ledger { IsErrOf result NoStore.NoLedger → ¬ IsLedger entries.now }
+    ensures never_in_use { IfErr result (λ none. none ≢ NoStore.InUse) }
 {
     match TillMachine::open(alloc, entries) {
         Ok(machine) => Ok(waiting_in(machine.states())),
@@ -174,6 +181,7 @@ fn write_new<S: Store + Drop, N: NewLedgers<S>>(
     entries: &[Entry],
 ) -> Result<(), NoRenewal>
     ensures writes { OnOk result (Writes (new_place N.begun N.finished S.faithful S.holds) news.old path.now entries.now news.new) }
+    ensures unwritten { IfErr result (λ none. IsUnwritten (new_place N.begun N.finished S.faithful S.holds) news.old path.now entries.now none news.new) }
 {
     let mut store = match news.begin(path) {
         Ok(store) => store,
@@ -208,6 +216,7 @@ fn keep_all<S: Store>(store: &mut S, entries: &[Entry]) -> Result<(), StoreFault
 // Adds an entry, and another one after it if one is given, to a store that nobody else adds to.
 fn keep<S: Store>(store: &mut S, entry: &Entry, after: Option<&Entry>) -> Result<(), StoreFault>
     ensures has { OnOk result (Has S.faithful S.holds store.old (added entry.now (option_map (λ e. e.now) after.entry)) store.new) }
+    ensures may_have { OnErr result (MayHave S.faithful S.holds S.leaves store.old (added entry.now (option_map (λ e. e.now) after.entry)) store.new) }
 {
     match store.append(entry, after) {
         Ok(Appended::Done) => Ok(()),
@@ -216,12 +225,13 @@ fn keep<S: Store>(store: &mut S, entry: &Entry, after: Option<&Entry>) -> Result
     }
 }
 
-// Ends a ledger from which another goes on.
+// Adds what ends a ledger from which a new one goes on: the first entry of that one, twice.
 fn end_ledger<T: Store>(store: &mut T, new: &[Entry]) -> Result<(), StoreFault>
-    ensures ends { OnOk result ((first : _) × (rest : List _) × (new.now ≡ first ∷ rest) × Has T.faithful T.holds store.old (first ∷ first ∷ []) store.new) }
+    ensures ends { OnOk result (Has T.faithful T.holds store.old (ending new.now) store.new) }
+    ensures may_end { OnErr result (MayHave T.faithful T.holds T.leaves store.old (ending new.now) store.new) }
 {
-    let Some(first) = new.first() else {
-        return Err(StoreFault::Failed);
-    };
-    keep(store, first, Some(first))
+    match new.first() {
+        Some(first) => keep(store, first, Some(first)),
+        None => Ok(()),
+    }
 }

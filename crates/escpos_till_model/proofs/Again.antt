@@ -10,12 +10,12 @@ use Rattle.escpos_till.specs.declared.book.Book.{Book}
 use Rattle.escpos_till.specs.declared.entry.Entry.{Entry}
 use Rattle.escpos_till.specs.declared.entry.Entry.TheVariants as entry
 use Rattle.escpos_till.specs.declared.further.Further.{Further}
-use Rattle.escpos_till.specs.declared.machine.Stage.{Stage}
-use Rattle.escpos_till.specs.declared.machine.Stage.TheVariants as stage
-use Rattle.escpos_till.specs.declared.machine.Talk.{Talk}
-use Rattle.escpos_till.specs.declared.machine.TillNote.{TillNote}
-use Rattle.escpos_till.specs.declared.machine.Then.{Then}
-use Rattle.escpos_till.specs.declared.machine.Then.TheVariants as then
+use Rattle.escpos_till.specs.declared.stage.Stage.{Stage}
+use Rattle.escpos_till.specs.declared.stage.Stage.TheVariants as stage
+use Rattle.escpos_till.specs.declared.stage.Talk.{Talk}
+use Rattle.escpos_till.specs.declared.note.TillNote.{TillNote}
+use Rattle.escpos_till.specs.declared.stage.Then.{Then}
+use Rattle.escpos_till.specs.declared.stage.Then.TheVariants as then
 use Rattle.std.specs.List.{AllByRecursion}
 use Rattle.escpos_till.specs.Book.{IsBookOf}
 use Rattle.escpos_till.specs.Entries.{IsLedger, MayFollow, Waits, cancelled}

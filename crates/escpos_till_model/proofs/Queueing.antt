@@ -3,10 +3,10 @@ use Rattle.std.proofs.Common.{ℕ, inl, inr, Option, Some, None, List, sym, subs
 use Rattle.escpos_till.specs.declared.entry.Content.{Content}
 use Rattle.escpos_till.specs.declared.entry.Entry.{Entry}
 use Rattle.escpos_till.specs.declared.entry.Entry.TheVariants as entry
-use Rattle.escpos_till.specs.declared.machine.Stage.{Stage}
-use Rattle.escpos_till.specs.declared.machine.Stage.TheVariants as stage
-use Rattle.escpos_till.specs.declared.machine.Then.TheVariants as then
-use Rattle.escpos_till.specs.declared.machine.TillNote.TheVariants as note
+use Rattle.escpos_till.specs.declared.stage.Stage.{Stage}
+use Rattle.escpos_till.specs.declared.stage.Stage.TheVariants as stage
+use Rattle.escpos_till.specs.declared.stage.Then.TheVariants as then
+use Rattle.escpos_till.specs.declared.note.TillNote.TheVariants as note
 use Rattle.escpos_till.specs.Machine.{MachineView, Queues, taking}
 
 taking_to : (P : Stage → Type 0) → ((content : Content) → P (stage.Keeping (entry.Queued content) then.Queued)) → ((e : Entry) (content : Content) → P (stage.Keeping e (then.Take content)))

@@ -16,8 +16,8 @@ use Rattle.escpos_link.specs.Wire.{WireView, given_up, wire_of}
 use Rattle.escpos_link.proofs.Keeping.{off_link_kept}
 use Rattle.escpos_till.specs.declared.entry.Content.{Content}
 use Rattle.escpos_till.specs.declared.entry.Entry.{Entry}
-use Rattle.escpos_till.specs.declared.machine.TillNote.{TillNote}
-use Rattle.escpos_till.specs.declared.machine.TillNote.TheVariants as note
+use Rattle.escpos_till.specs.declared.note.TillNote.{TillNote}
+use Rattle.escpos_till.specs.declared.note.TillNote.TheVariants as note
 use Rattle.escpos_till.specs.Entries.{Taken, Waits, cancel_place_of, heard, is_open, last_number, next_free, place_of, recorded, taken, waiting}
 use Rattle.escpos_till.specs.Renewing.{Renews}
 use Rattle.escpos_till.specs.Tries.{HasTry, tries}

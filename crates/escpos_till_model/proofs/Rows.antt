@@ -4,8 +4,8 @@ use Rattle.std.proofs.Common.{ℕ, ◌≡◌, List, [], ◌∷◌, ◌++◌, ref
 use Rattle.std.proofs.lemmas.List.{map-append}
 use Rattle.escpos_link.specs.Wire.{WireView}
 use Rattle.escpos_till.specs.declared.entry.Entry.{Entry}
-use Rattle.escpos_till.specs.declared.machine.Stage.TheVariants as stage
-use Rattle.escpos_till.specs.declared.machine.TillNote.{TillNote}
+use Rattle.escpos_till.specs.declared.stage.Stage.TheVariants as stage
+use Rattle.escpos_till.specs.declared.note.TillNote.{TillNote}
 use Rattle.escpos_till.specs.declared.store.StoreFault.{StoreFault}
 use Rattle.escpos_till.specs.declared.surroundings.Surroundings.{Surroundings}
 use Rattle.escpos_till.specs.Driver.{Answered, Deed, Serves, ServesAll, Tells, more, none}

@@ -6,7 +6,7 @@ use Rattle.escpos_host.specs.Machine.{IsSound}
 use Rattle.escpos_link.specs.declared.event.Event.TheVariants as line
 use Rattle.escpos_link.specs.Trusted.{IsFitting}
 use Rattle.escpos_receipt.specs.Whole.{Whole}
-use Rattle.escpos_till.specs.declared.machine.TillNote.{TillNote}
+use Rattle.escpos_till.specs.declared.note.TillNote.{TillNote}
 use Rattle.escpos_till.specs.Book.{IsBookOf}
 use Rattle.escpos_till.specs.Driver.{Call, Calls, Cancel, Deliver, Queue, Raise, Ran, RanTo, Tells}
 use Rattle.escpos_till.specs.Machine.{Cancels, Delivers, IsStarted, MachineView, Queues, Raises}

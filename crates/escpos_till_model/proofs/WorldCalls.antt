@@ -9,16 +9,16 @@ use Rattle.escpos_host.specs.Machine.{Down, HostView, IsSound, Opening, limit_fr
 use Rattle.escpos_link.specs.Wire.{WireView, line_of}
 use Rattle.escpos_till.specs.declared.entry.Content.{Content}
 use Rattle.escpos_till.specs.declared.entry.Entry.{Entry}
-use Rattle.escpos_till.specs.declared.machine.Stage.{Stage}
-use Rattle.escpos_till.specs.declared.machine.Stage.TheVariants as stage
+use Rattle.escpos_till.specs.declared.stage.Stage.{Stage}
+use Rattle.escpos_till.specs.declared.stage.Stage.TheVariants as stage
 use Rattle.escpos_till.specs.Book.{IsBookOf}
 use Rattle.escpos_till.specs.Entries.{MayFollow, Taken, Waits, cancel_place_of, contents, earlier, heard, is_open, next_free, numbered_from, place_of, taken, waiting}
 use Rattle.escpos_till.specs.declared.book.Book.{Book}
 use Rattle.escpos_till.specs.declared.entry.Entry.TheVariants as entry
-use Rattle.escpos_till.specs.declared.machine.Due.{Due}
-use Rattle.escpos_till.specs.declared.machine.Then.TheVariants as then
-use Rattle.escpos_till.specs.declared.machine.TillNote.{TillNote}
-use Rattle.escpos_till.specs.declared.machine.TillNote.TheVariants as note_kind
+use Rattle.escpos_till.specs.declared.stage.Due.{Due}
+use Rattle.escpos_till.specs.declared.stage.Then.TheVariants as then
+use Rattle.escpos_till.specs.declared.note.TillNote.{TillNote}
+use Rattle.escpos_till.specs.declared.note.TillNote.TheVariants as note_kind
 use Rattle.escpos_till.specs.Contents.{ContentDescribes}
 use Rattle.escpos_till.specs.Copy.{copy_line, sent_of}
 use Rattle.escpos_till.specs.Delivers.{marks_taken}
@@ -33,7 +33,7 @@ use Rattle.escpos_till_model.specs.Kept.{Hand}
 use Rattle.escpos_till_model.specs.Known.{Accounted, BookMayLag, Holds, IsHostOf, IsMachineIn, IsToSend, IsWorld}
 use Rattle.escpos_till.specs.declared.pause.Pause.{Pause}
 use Rattle.escpos_host.specs.declared.send.SendFault.TheVariants as fault
-use Rattle.escpos_till.specs.declared.machine.Talk.{Talk}
+use Rattle.escpos_till.specs.declared.stage.Talk.{Talk}
 use Rattle.escpos_till.specs.Further.{IsText}
 use Rattle.escpos_till_model.specs.World.{Calls, FitsLine, IsSendable, IsSo, Tells, TellsNews, Wired, World, running}
 use Rattle.escpos_till_model.specs.Late.{HasJustBegun, LateAnswers}

@@ -28,22 +28,22 @@ use Rattle.escpos_host.proofs.Earlier.{earlier_hears, earlier_sound, ends_shifte
 use Rattle.escpos_host.proofs.Recording.{keeps, none_has, told}
 use Rattle.escpos_link.proofs.Promising.{receipts_join}
 use Rattle.escpos_till.specs.declared.entry.Entry.{Entry}
-use Rattle.escpos_till.specs.declared.machine.Stage.TheVariants as stage
+use Rattle.escpos_till.specs.declared.stage.Stage.TheVariants as stage
 use Rattle.escpos_till.specs.Book.{IsBookOf}
 use Rattle.escpos_till.specs.declared.book.Book.{Book}
 use Rattle.escpos_till.specs.Entries.{IsLedger, MayFollow, Waits, next_free, recorded}
 use Rattle.escpos_till.specs.Entries.{heard as heard_in}
 use Rattle.escpos_till.specs.Tries.{ClosesTry, HasTry, tries}
 use Rattle.escpos_till.specs.declared.further.Further.{Further}
-use Rattle.escpos_till.specs.declared.machine.Due.{Due}
-use Rattle.escpos_till.specs.declared.machine.TillNote.{TillNote}
+use Rattle.escpos_till.specs.declared.stage.Due.{Due}
+use Rattle.escpos_till.specs.declared.note.TillNote.{TillNote}
 use Rattle.escpos_till.specs.Further.{GoesFurther, IsAfter, heard_by}
 use Rattle.escpos_till.proofs.EntryLemmas.{heard-snoc, next_after_recorded}
 use Rattle.escpos_till.proofs.MachineLemmas.{said_least}
 use Rattle.escpos_till.specs.declared.entry.Entry.TheVariants as entry
-use Rattle.escpos_till.specs.declared.machine.Talk.{Talk}
-use Rattle.escpos_till.specs.declared.machine.Then.TheVariants as then
-use Rattle.escpos_till.specs.declared.machine.TillNote.TheVariants as note_kind
+use Rattle.escpos_till.specs.declared.stage.Talk.{Talk}
+use Rattle.escpos_till.specs.declared.stage.Then.TheVariants as then
+use Rattle.escpos_till.specs.declared.note.TillNote.TheVariants as note_kind
 use Rattle.escpos_till.specs.Machine.{Came, Drops, GoesOn as MachineGoesOn, MachineView, Sends, Submits, Turns as MachineTurns, printed, with_left, with_pause, with_sent}
 use Rattle.escpos_till_model.proofs.GoesOn.{answered_on}
 use Rattle.escpos_till_model.proofs.EntryFacts.{zip_length}

@@ -5,7 +5,7 @@ use Rattle.escpos_host.specs.declared.host.HostEvent.TheVariants as heard
 use Rattle.escpos_host.specs.Machine.{HostView}
 use Rattle.escpos_till.specs.declared.entry.Entry.{Entry}
 use Rattle.escpos_till.specs.declared.entry.Entry.TheVariants as entry
-use Rattle.escpos_till.specs.declared.machine.Talk.{Talk}
+use Rattle.escpos_till.specs.declared.stage.Talk.{Talk}
 use Rattle.escpos_till.specs.Entries.{Waits}
 use Rattle.escpos_till.specs.Entries.{heard as heard_in}
 use Rattle.escpos_till.specs.Machine.{HearsOne, Turns}

@@ -8,10 +8,10 @@ use Rattle.escpos_command.specs.Marks.{marks}
 use Rattle.escpos_real_time.specs.RealTime.{HoldsRealTime}
 use Rattle.escpos_till.specs.declared.entry.Entry.{Entry}
 use Rattle.escpos_till.specs.declared.entry.Entry.TheVariants as entry
-use Rattle.escpos_till.specs.declared.machine.Stage.{Stage}
-use Rattle.escpos_till.specs.declared.machine.Stage.TheVariants as stage
-use Rattle.escpos_till.specs.declared.machine.Then.{Then}
-use Rattle.escpos_till.specs.declared.machine.Then.TheVariants as then
+use Rattle.escpos_till.specs.declared.stage.Stage.{Stage}
+use Rattle.escpos_till.specs.declared.stage.Stage.TheVariants as stage
+use Rattle.escpos_till.specs.declared.stage.Then.{Then}
+use Rattle.escpos_till.specs.declared.stage.Then.TheVariants as then
 use Rattle.escpos_till.specs.Driver.{Breaks, Deed, Keeps, Learns, Puts}
 use Rattle.escpos_till.specs.Entries.{next_free}
 use Rattle.escpos_till.specs.Machine.{MachineView}

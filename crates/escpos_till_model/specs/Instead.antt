@@ -5,11 +5,11 @@ use Rattle.escpos_host.specs.declared.send.SendFault.{SendFault}
 use Rattle.escpos_host.specs.declared.send.SendFault.TheVariants as fault
 use Rattle.escpos_link.specs.declared.event.Event.TheVariants as line
 use Rattle.escpos_till.specs.declared.entry.Entry.{Entry}
-use Rattle.escpos_till.specs.declared.machine.Stage.{Stage}
-use Rattle.escpos_till.specs.declared.machine.Stage.TheVariants as stage
-use Rattle.escpos_till.specs.declared.machine.Talk.{Talk}
-use Rattle.escpos_till.specs.declared.machine.Then.{Then}
-use Rattle.escpos_till.specs.declared.machine.TillNote.{TillNote}
+use Rattle.escpos_till.specs.declared.stage.Stage.{Stage}
+use Rattle.escpos_till.specs.declared.stage.Stage.TheVariants as stage
+use Rattle.escpos_till.specs.declared.stage.Talk.{Talk}
+use Rattle.escpos_till.specs.declared.stage.Then.{Then}
+use Rattle.escpos_till.specs.declared.note.TillNote.{TillNote}
 use Rattle.escpos_till.specs.Machine.{MachineView, entry_with, news_of}
 use Rattle.escpos_till_model.specs.declared.event.Happening.{Happening}
 use Rattle.escpos_till_model.specs.declared.event.Happening.TheVariants as event

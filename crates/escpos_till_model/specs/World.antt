@@ -24,12 +24,12 @@ use Rattle.escpos_link.specs.Line.{IsLine, LineView}
 use Rattle.escpos_link.specs.Trusted.{IsFitting, IsTrusted}
 use Rattle.escpos_link.specs.Wire.{AfterOnWire, WireView, given_up, heard_from, wire_of, with_bytes, with_link}
 use Rattle.escpos_till.specs.declared.entry.Entry.{Entry}
-use Rattle.escpos_till.specs.declared.machine.Stage.{Stage}
-use Rattle.escpos_till.specs.declared.machine.Stage.TheVariants as stage
-use Rattle.escpos_till.specs.declared.machine.Talk.{Talk}
-use Rattle.escpos_till.specs.declared.machine.Then.{Then}
-use Rattle.escpos_till.specs.declared.machine.TillNote.{TillNote}
-use Rattle.escpos_till.specs.declared.machine.TillNote.TheVariants as note
+use Rattle.escpos_till.specs.declared.stage.Stage.{Stage}
+use Rattle.escpos_till.specs.declared.stage.Stage.TheVariants as stage
+use Rattle.escpos_till.specs.declared.stage.Talk.{Talk}
+use Rattle.escpos_till.specs.declared.stage.Then.{Then}
+use Rattle.escpos_till.specs.declared.note.TillNote.{TillNote}
+use Rattle.escpos_till.specs.declared.note.TillNote.TheVariants as note
 use Rattle.escpos_till.specs.Book.{IsBookOf}
 use Rattle.escpos_till.specs.Further.{IsText}
 use Rattle.escpos_till.specs.Entries.{IsLedger, cancelled, heard, last_number, next_free, recorded, times_tried}

@@ -6,10 +6,10 @@ ghost use Rattle.std.specs.Prelude.{ℕ, ◌≡◌, ◌≢◌, ◌↔◌, Some, 
 ghost use Rattle.escpos_host.specs.Machine.{IsSound};
 ghost use Rattle.escpos_link.specs.declared.event.Event.TheVariants as line;
 ghost use Rattle.escpos_link.specs.Wire.{given_up, with_link};
-ghost use Rattle.escpos_till.specs.declared.machine.Stage.TheVariants as stage;
-ghost use Rattle.escpos_till.specs.declared.machine.Talk.{Talk};
-ghost use Rattle.escpos_till.specs.declared.machine.Then.{Then};
-ghost use Rattle.escpos_till.specs.declared.machine.TillNote.{TillNote};
+ghost use Rattle.escpos_till.specs.declared.stage.Stage.TheVariants as stage;
+ghost use Rattle.escpos_till.specs.declared.stage.Talk.{Talk};
+ghost use Rattle.escpos_till.specs.declared.stage.Then.{Then};
+ghost use Rattle.escpos_till.specs.declared.note.TillNote.{TillNote};
 ghost use Rattle.escpos_till.specs.Machine.{Delivers, Ended, Kept, MachineView, Unsure, put};
 ghost use Rattle.escpos_till_model.specs.declared.event.Happening.TheVariants as event;
 ghost use Rattle.escpos_till_model.specs.Instead.{HasNews, Instead, IsUnwanted, KeepsEntry};

@@ -2,7 +2,7 @@
 
 ghost use Rattle.std.specs.Prelude.{ℕ, ◌≡◌, ◌<◌, ◌≤◌, [], length, None, option_map, IfOk, IfErr, OnOk};
 ghost use Rattle.escpos_paper.specs.Page.{SheetIs};
-ghost use Rattle.escpos_till.specs.declared.machine.TillNote.TheVariants as note;
+ghost use Rattle.escpos_till.specs.declared.note.TillNote.TheVariants as note;
 ghost use Rattle.escpos_till.specs.Entries.{cancelled, last_number, recorded, times_tried};
 ghost use Rattle.escpos_till_model.specs.Instead.{Instead, Ran};
 ghost use Rattle.escpos_till_model.specs.Known.{IsWorld};

@@ -445,7 +445,14 @@ fn machine_puts_no_id_that_is_out(rt: HostRuntime) {
 #[test]
 fn machine_takes_each_number(rt: HostRuntime) {
     for first in [1u32, 255, 256, 1_000, 1_001, 65_535, 65_536, 1_000_000] {
-        let mut machine = machine_of(&rt, rt.alloc(), &[Entry::Raised { next: first, heard: 0 }]);
+        let mut machine = machine_of(
+            &rt,
+            rt.alloc(),
+            &[Entry::Raised {
+                next: first,
+                heard: 0,
+            }],
+        );
         assert!(&rt; machine.raise(first) == Ok(()));
         machine.appended(Ok(()));
         tells(&rt, &mut machine, TillNote::Raised);

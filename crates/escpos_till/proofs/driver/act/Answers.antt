@@ -2,9 +2,9 @@
 use Rattle.std.specs.Prelude.{option_map}
 use Rattle.std.proofs.Common.{rules, ◌≡◌, ◌∙◌, List, ap, refl, sym, subst}
 use Rattle.escpos_till.specs.declared.driver.Turned.TheVariants as turned
-use Rattle.escpos_till.specs.declared.machine.TillNote.{TillNote}
+use Rattle.escpos_till.specs.declared.note.TillNote.{TillNote}
 use Rattle.escpos_till.specs.declared.entry.Entry.{Entry}
-use Rattle.escpos_till.specs.declared.machine.Action.TheVariants as action
+use Rattle.escpos_till.specs.declared.stage.Action.TheVariants as action
 use Rattle.escpos_till.specs.declared.surroundings.Surroundings.{Surroundings}
 use Rattle.escpos_till.specs.Appending.{IfDone, IfOthers}
 use Rattle.escpos_till.specs.declared.store.StoreFault.{StoreFault}

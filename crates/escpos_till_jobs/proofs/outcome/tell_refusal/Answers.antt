@@ -1,7 +1,7 @@
 -- Why a receipt isn't cancelled, with its number.
 use Rattle.std.proofs.Common.{refl}
 use Rattle.std.specs.Prelude.{codes}
-use Rattle.escpos_till.specs.declared.machine.TillRefusal.TheVariants as refusal
+use Rattle.escpos_till.specs.declared.note.TillRefusal.TheVariants as refusal
 use Rattle.escpos_till_jobs.specs.Lines.{number_line}
 use Rattle.escpos_till_jobs.proofs.RefusalLines.{tells_number}
 use Rattle.escpos_till_jobs.proofs.outcome.tell_refusal.Goals as goal

@@ -2,7 +2,7 @@
 use Rattle.std.proofs.Common.{◌≤◌, List, ◌++◌, sym, subst, ap}
 use Rattle.escpos_till.specs.Entries.{last_number, recorded}
 use Rattle.escpos_till.specs.Machine.{MachineView}
-use Rattle.escpos_till.specs.declared.machine.TillNote.TheVariants as note
+use Rattle.escpos_till.specs.declared.note.TillNote.TheVariants as note
 use Rattle.escpos_till_model.specs.Around.{Around, Reaches}
 use Rattle.escpos_till_model.specs.Receipts.{Among, EachIsKept, Extends, RecordedStand}
 use Rattle.escpos_till_model.specs.declared.event.Happening.{Happening}

@@ -1,6 +1,6 @@
 -- Calls that were served one after another, in the world; and what holds of the world that they lead to.
 use Rattle.std.proofs.Common.{◌≤◌, ◌++◌, sym, subst}
-use Rattle.escpos_till.specs.declared.machine.TillNote.TheVariants as note
+use Rattle.escpos_till.specs.declared.note.TillNote.TheVariants as note
 use Rattle.escpos_till.specs.Entries.{last_number, recorded}
 use Rattle.escpos_till_model.specs.Around.{around}
 use Rattle.escpos_till_model.specs.Bridge.{GoesTo, told_of}

@@ -1,8 +1,8 @@
 -- A call that was served, in the world; and what holds of the world that it leads to.
 use Rattle.std.proofs.Common.{◌≡◌, ◌≤◌, [], ◌∷◌, ◌++◌, ◌∙◌, Some, refl, sym, subst}
 use Rattle.escpos_till.specs.Surroundings.{Did}
-use Rattle.escpos_till.specs.declared.machine.Stage.TheVariants as stage
-use Rattle.escpos_till.specs.declared.machine.TillNote.TheVariants as note
+use Rattle.escpos_till.specs.declared.stage.Stage.TheVariants as stage
+use Rattle.escpos_till.specs.declared.note.TillNote.TheVariants as note
 use Rattle.escpos_till.specs.Book.{IsBookOf}
 use Rattle.escpos_till.specs.Entries.{IsLedger, last_number, recorded}
 use Rattle.escpos_till.specs.Driver.{Queue, Ran, Tells}

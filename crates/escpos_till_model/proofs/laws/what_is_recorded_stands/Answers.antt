@@ -1,4 +1,4 @@
-use Rattle.escpos_till.specs.declared.machine.TillNote.TheVariants as note
+use Rattle.escpos_till.specs.declared.note.TillNote.TheVariants as note
 use Rattle.escpos_till_model.specs.Known.{IsWorld}
 use Rattle.escpos_till_model.specs.declared.event.Happening.{Happening}
 use Rattle.escpos_till_model.specs.World.{Begins, Runs, World}

@@ -1,7 +1,7 @@
 -- What is heard over a link.
 use Rattle.std.proofs.Common.{◌≡◌, ◌∙◌, ap, length, refl, sym, subst}
 use Rattle.std.proofs.lemmas.Bool.{eqb-true}
-use Rattle.escpos_till.specs.declared.machine.Stage.TheVariants as stage
+use Rattle.escpos_till.specs.declared.stage.Stage.TheVariants as stage
 use Rattle.escpos_till.specs.Machine.{Fits}
 use Rattle.escpos_till.proofs.MachineLemmas.{came_so, fits_turns, hears_within}
 use Rattle.escpos_till.proofs.machine.TillMachine.came.Goals as goal

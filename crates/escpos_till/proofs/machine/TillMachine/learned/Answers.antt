@@ -1,7 +1,7 @@
 -- What a machine learns that was to keep an entry.
 use Rattle.std.proofs.Common.{◌≡◌, ◌∙◌, ap, sym, subst}
 use Rattle.std.specs.Prelude.{IfErr, OnOk}
-use Rattle.escpos_till.specs.declared.machine.Stage.TheVariants as stage
+use Rattle.escpos_till.specs.declared.stage.Stage.TheVariants as stage
 use Rattle.escpos_till.specs.declared.store.StoreFault.{StoreFault}
 use Rattle.escpos_till.specs.Learning.{FailsToLearn, IfKeeping, Learned, LearnsAll}
 use Rattle.escpos_till.specs.Machine.{MachineView, at}
