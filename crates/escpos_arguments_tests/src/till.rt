@@ -81,7 +81,7 @@ fn deliveries_that_wait(rt: HostRuntime) {
     }
 }
 
-const ASKED: [(&'static [&'static str], Result<Plain<'static>, NoTask>); 34] = [
+const ASKED: [(&'static [&'static str], Result<Plain<'static>, NoTask>); 35] = [
     (&["queue", "till"], Ok(Plain::Queue("till", 512, None))),
     (
         &["queue", "a/till.db"],
@@ -155,8 +155,12 @@ const ASKED: [(&'static [&'static str], Result<Plain<'static>, NoTask>); 34] = [
         Ok(Plain::List("till", Some(0))),
     ),
     (
-        &["ledger", "--first=1679615", "till"],
-        Ok(Plain::List("till", Some(1_679_615))),
+        &["ledger", "--first=1679616", "till"],
+        Ok(Plain::List("till", Some(1_679_616))),
+    ),
+    (
+        &["ledger", "till", "--first", "4294967295"],
+        Ok(Plain::List("till", Some(4_294_967_295))),
     ),
     (&["queue", "--help"], Err(NoTask::Help)),
     (&["deliver", "-h"], Err(NoTask::Help)),
@@ -257,7 +261,7 @@ const USAGE: [&'static [&'static str]; 84] = [
     &["cancel", "till", "--number", "1"],
     &["cancel", "till", "1", "--first", "1"],
     &["ledger"],
-    &["ledger", "till", "--first", "1679616"],
+    &["ledger", "till", "--first", "4294967296"],
     &["ledger", "till", "--first", "-1"],
     &["ledger", "till", "--first", "1", "--first", "1"],
     &["ledger", "till", "--renew"],
