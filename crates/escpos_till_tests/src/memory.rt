@@ -6,7 +6,4 @@
 
 mod learning;
 mod machine;
-mod model;
-mod store;
 mod till;
-mod wire_line;

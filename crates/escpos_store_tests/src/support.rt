@@ -1,7 +1,7 @@
-//! Stores in SQLite over files in memory.
+//! Stores in SQLite over files in memory, and what their entries hold.
 
 use escpos_store::SqliteStore;
-use escpos_till::NoStore;
+use escpos_till::{NoStore, ReceiptKey, ReceiptNumber};
 use sqlite::{FileStore, Files, Options};
 use sqlite_disk::{Disk, Memory};
 use std::alloc::Global;
@@ -46,4 +46,12 @@ pub fn closed(rt: &impl Abort, store: Filed) -> Files<Memory> {
         Ok(files) => files,
         Err(_) => panic!(rt; "not closed"),
     }
+}
+
+pub fn number(rt: &impl Abort, number: usize) -> ReceiptNumber {
+    ReceiptNumber::new(number).expect(rt, "a number")
+}
+
+pub fn key(rt: &impl Abort, text: &[u8]) -> ReceiptKey {
+    ReceiptKey::new(text).expect(rt, "a key")
 }

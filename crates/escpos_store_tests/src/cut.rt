@@ -1,6 +1,6 @@
 //! Ledgers in SQLite whose files are cut off: an open or a close that ends in the middle, and a file that is gone.
 
-use crate::support::stores::{Filed, closed, new_files, opened, refused};
+use crate::support::{Filed, closed, new_files, opened, refused};
 use escpos_store::{SqliteStore, close_until, open_until};
 use escpos_till::{Appended, Entry, Store};
 use sqlite::{FileStore, Files, Options};

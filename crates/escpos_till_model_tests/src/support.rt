@@ -1,13 +1,12 @@
 //! What happens to a till in the world where everything may fail.
 
-use crate::support::tills::{key, number};
 use escpos_command::LineWidth;
 use escpos_host::SendFault;
 use escpos_link::Event;
 use escpos_printer::Condition;
 use escpos_receipt::ReceiptOptions;
 use escpos_test_receipts::S;
-use escpos_till::{ReceiptContent, ReceiptState, StoreFault, TillNote};
+use escpos_till::{ReceiptContent, ReceiptKey, ReceiptNumber, ReceiptState, StoreFault, TillNote};
 use escpos_till_model::{Happening, NotPossible, Till};
 use std::alloc::Global;
 use std::process::Abort;
@@ -79,7 +78,16 @@ pub const DELIVERY: [Plain; 18] = [
     Plain::Tell,
 ];
 
-fn content(rt: &impl Abort, alloc: Global) -> ReceiptContent {
+pub fn number(rt: &impl Abort, number: usize) -> ReceiptNumber {
+    ReceiptNumber::new(number).expect(rt, "a number")
+}
+
+fn key(rt: &impl Abort) -> ReceiptKey {
+    ReceiptKey::new(b"sale-7").expect(rt, "a key")
+}
+
+// S, once it was read. Where memory is refused, it is read again.
+pub fn content(rt: &impl Abort, alloc: Global) -> ReceiptContent {
     for _ in 0..8 {
         if let Ok(text) = S.0.to_vec(alloc) {
             if let Ok(content) = ReceiptContent::read(alloc, &ReceiptOptions::usual(), text) {
@@ -138,7 +146,7 @@ pub fn happening(rt: &impl Abort, alloc: Global, plain: Plain) -> Happening {
         },
         Plain::Keyed => Happening::Queue {
             receipt: content(rt, alloc),
-            key: Some(key(rt, b"sale-7")),
+            key: Some(key(rt)),
         },
         Plain::Raise => Happening::Raise(5),
         Plain::Cancel => Happening::Cancel(number(rt, 1)),

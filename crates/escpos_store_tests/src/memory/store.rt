@@ -3,7 +3,7 @@
 //! A store that is refused memory in `append` is opened again: a crash leaves the entries with the new one or without. Where the
 //! files are used up, the test begins anew. A file in memory that has none left fails as a disk does, so `Failed` comes too.
 
-use crate::support::stores::{Filed, new_files};
+use crate::support::{Filed, new_files};
 use escpos_store::SqliteStore;
 use escpos_till::{Appended, Entry, NoStore, Store, StoreFault};
 use sqlite::{Alter, Files, MemStore, Options};

@@ -1,8 +1,8 @@
 //! A line in memory to the printer of a wire, where memory is refused.
 
+use crate::support::ONLINE;
 use escpos_command::LineWidth;
 use escpos_link::Wire;
-use escpos_printer::Condition;
 use escpos_till::PrinterLine;
 use escpos_till_model::WireLine;
 use std::alloc::Global;
@@ -12,17 +12,11 @@ const MARK: &[u8] = b"\x1D(H\x06\x00000000";
 
 const ANSWER: &[u8] = b"\x37\x220000\x00";
 
-const READY: Condition = Condition {
-    cover_open: false,
-    near_end: false,
-    paper_end: false,
-};
-
 // A new wire, which is made again where memory is refused.
 fn wire_at_last(rt: &impl Abort, alloc: Global) -> Wire {
-    match Wire::new(alloc, READY, LineWidth::usual()) {
+    match Wire::new(alloc, ONLINE, LineWidth::usual()) {
         Ok(wire) => wire,
-        Err(_) => Wire::new(alloc, READY, LineWidth::usual()).expect(rt, "a wire"),
+        Err(_) => Wire::new(alloc, ONLINE, LineWidth::usual()).expect(rt, "a wire"),
     }
 }
 

@@ -1,7 +1,6 @@
 //! Long ledgers in SQLite: as many entries as a byte counts and more are added, and read from files that were closed.
 
-use crate::support::stores::{closed, new_files, opened};
-use crate::support::tills::{key, number};
+use crate::support::{closed, key, new_files, number, opened};
 use escpos_store::SqliteStore;
 use escpos_till::{Appended, Content, Entry, Store};
 use sqlite::Alter;

@@ -1,10 +1,9 @@
 //! A till in the world where everything may fail: a whole delivery, one happening after another, a crash between each two of them, a store
 //! that fails, and links that end.
 
-use crate::support::model::{
-    DELIVERY, Plain, TAKEN, all_happen, happening, happens, stand, till_at_last, was_told,
+use crate::support::{
+    DELIVERY, Plain, TAKEN, all_happen, happening, happens, number, stand, till_at_last, was_told,
 };
-use crate::support::tills::number;
 use escpos_host::SendFault;
 use escpos_io::MemoryOut;
 use escpos_paper::write_items;

@@ -1,8 +1,7 @@
 //! The store in SQLite: entries of each kind come back in order, over memory, and from files that were closed, or left as in a
 //! crash.
 
-use crate::support::stores::{closed, new_files, opened};
-use crate::support::tills::{key, number};
+use crate::support::{closed, key, new_files, number, opened};
 use escpos_command::LineWidth;
 use escpos_receipt::ReceiptOptions;
 use escpos_store::SqliteStore;

@@ -2,7 +2,7 @@
 //!
 //! What didn't happen for want of memory happens again, unless the link has ended with it: then the receipt is delivered again.
 
-use crate::support::model::{DELIVERY, Plain, TAKEN, all_happen, happens, stand, till_at_last};
+use crate::support::{DELIVERY, Plain, TAKEN, all_happen, happens, stand, till_at_last};
 use escpos_till::{ReceiptState, TillRefusal};
 use escpos_till_model::{NotPossible, Till};
 use std::alloc::Global;
