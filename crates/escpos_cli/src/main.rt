@@ -25,7 +25,7 @@ pub use escpos_jobs::{
 };
 use escpos_probe::probe;
 use escpos_till::PrinterLine;
-use escpos_till_jobs::{Lines, NetworkLines, TillTask, perform_till};
+use escpos_till_jobs::{LedgerPath, Lines, NetworkLines, TillTask, perform_till};
 use std::process::ExitCode;
 use std::{env, io};
 
@@ -111,9 +111,9 @@ fn perform_over<L: PrinterLine + Drop, P: Lines<L>, R: ByteIn, W: ByteOut>(
     ensures not_hidden { result ≢ Status.Device → ¬ IsTrue (W.failed output.old) → ¬ IsTrue (W.failed output.new) }
 {
     let mut ledgers = LedgerFiles::new(rt);
-    let renewed = renewed_path(&task);
+    let renewed = task.renewed_path();
     let mut shared = SharedFiles::new(rt, renewed.is_none());
-    let mut news = NewFiles::new(rt, renewed.unwrap_or(""));
+    let mut news = NewFiles::new(rt, renewed.unwrap_or(LedgerPath::new("")).text());
     perform_till(
         rt.alloc(),
         &mut ledgers,
@@ -124,14 +124,6 @@ fn perform_over<L: PrinterLine + Drop, P: Lines<L>, R: ByteIn, W: ByteOut>(
         input,
         output,
     )
-}
-
-// Where the ledger is that a task renews, if it renews one.
-fn renewed_path<'a>(task: &TillTask<'a>) -> Option<&'a str> {
-    match task {
-        TillTask::Renew { ledger, .. } => Some(ledger.text()),
-        _ => None,
-    }
 }
 
 // Says why these arguments name no task. Help after a word is its part of the help.

@@ -10,9 +10,8 @@ use Rattle.escpos_till.specs.declared.entry.Entry.{Entry}
 use Rattle.escpos_till.specs.declared.entry.Entry.TheVariants.{Queued, Tried, Recorded, Raised, Cancelled, Key, Renewed, Earlier}
 use Rattle.escpos_till.specs.declared.state.ReceiptState.{ReceiptState}
 use Rattle.escpos_till.specs.declared.state.ReceiptState.TheVariants as state
-use Rattle.escpos_till.specs.declared.keyed.Keyed.{Keyed}
 use Rattle.escpos_till.specs.Book.{HasContents, HasKeys, IsBookOf, StandsAt}
-use Rattle.escpos_till.specs.Keyed.{ListsKey, ListsNumber}
+use Rattle.escpos_till.specs.Keyed.{Keyed, ListsKey, ListsNumber}
 use Rattle.escpos_till.specs.Entries.{HasKey, IsLedger, MayFollow, Waits, content_of, contents, earlier, heard_said, last_number, place_here, recorded, state_of, states, times_tried, waiting}
 use Rattle.escpos_till.specs.Entries.{states as states_of}
 use Rattle.escpos_till.specs.Delivers.{FirstWaits}
@@ -295,7 +294,7 @@ book_after_renewed s t es e older hd sums follows kind kept states first recorde
 pub book_after_earlier : (s t : Book) (es : List Entry) (e : Entry) (n : ℕ) (key : List ℕ) → IsBookOf s es → MayFollow es e → e ≡ Earlier n key
     → t.contents.items ≡ s.contents.items → t.states.items ≡ s.states.items
     → t.first_waiting ≡ s.first_waiting → t.recorded ≡ s.recorded → t.next ≡ s.next → t.heard ≡ s.heard → t.count ≡ s.count + 1 → t.tries.items ≡ s.tries.items
-    → t.keys.items ≡ s.keys.items ++ record { key = key; number = n } ∷ [] → t.last_key ≡ None → t.earlier ≡ s.earlier
+    → t.keys.items ≡ s.keys.items ++ (key, n) ∷ [] → t.last_key ≡ None → t.earlier ≡ s.earlier
     → IsBookOf t (es ++ e ∷ [])
 book_after_earlier s t es e n key sums follows kind kept states first recorded next marks count tried keys last older =
     let may : MayFollow es (Earlier n key) = subst (MayFollow es) kind follows in
@@ -316,7 +315,7 @@ book_after_earlier s t es e n key sums follows kind kept states first recorded n
 
 -- A receipt that is taken directly after a key has it; otherwise none.
 pub queued_keyed : (s : Book) (es : List Entry) (content : Content) (key : List ℕ) (number : ℕ) (keys : List Keyed) (states : List ReceiptState) → IsBookOf s es → s.last_key ≡ Some key
-    → states ≡ s.states.items ++ state.Waiting 0 ∷ [] → number ≡ s.earlier + length states → keys ≡ s.keys.items ++ record { key = key; number = number } ∷ [] → HasKeys keys (es ++ Queued content ∷ [])
+    → states ≡ s.states.items ++ state.Waiting 0 ∷ [] → number ≡ s.earlier + length states → keys ≡ s.keys.items ++ (key, number) ∷ [] → HasKeys keys (es ++ Queued content ∷ [])
 queued_keyed s es content key number keys states book last states_are is are =
     let count : number ≡ last_number es + 1 =
     omega (arith, is, ap length states_are, length-append s.states.items (state.Waiting 0 ∷ []), ap length book.states, last-states es, book.earlier) in

@@ -6,10 +6,9 @@ use Rattle.std.proofs.lemmas.List.Elements.{filter_map-append}
 use Rattle.escpos_till.specs.declared.entry.Content.{Content}
 use Rattle.escpos_till.specs.declared.entry.Entry.{Entry}
 use Rattle.escpos_till.specs.declared.entry.Entry.TheVariants.{Queued, Tried, Recorded, Raised, Cancelled, Key, Renewed, Earlier}
-use Rattle.escpos_till.specs.declared.keyed.Keyed.{Keyed}
 use Rattle.escpos_till.specs.Book.{HasKeys}
 use Rattle.escpos_till.specs.Entries.{CameWithKey, HasKey, IsLedger, TakenWithKey, content_of, contents, earlier, key_of, last_key, last_key_or, last_number}
-use Rattle.escpos_till.specs.Keyed.{ListsKey, ListsNumber}
+use Rattle.escpos_till.specs.Keyed.{Keyed, ListsKey, ListsNumber}
 use Rattle.escpos_till.proofs.EntryLemmas.{earlier-snoc, earlier_grows, split_snoc}
 
 -- ## Lists of keys
@@ -31,26 +30,9 @@ lists_last : (xs ys : List Keyed) (k : List ℕ) (n : ℕ) → ListsKey ys k n �
 lists_last [] ys k n has = has
 lists_last (x ∷ xs) ys k n has = inr (lists_last xs ys k n has)
 
--- The one at a place.
-pub lists_at : (xs : List Keyed) (i : ℕ) (x : Keyed) (k : List ℕ) → i < length xs → x ≡ get_or xs i x → x.key ≡ k → ListsKey xs k x.number
-lists_at [] i x k inside is so = absurd (omega (arith, inside))
-lists_at (y ∷ xs) zero x k inside is so = inl (subst (λ (v : Keyed). (v.key ≡ k) × (v.number ≡ x.number)) is (so, refl))
-lists_at (y ∷ xs) (suc i) x k inside is so = inr (lists_at xs i x k (omega (arith, inside)) is so)
-
--- Not among the first ones, and not the one after them.
-pub none_so_far : (xs : List Keyed) (i : ℕ) (x : Keyed) (k : List ℕ) → i < length xs → x ≡ get_or xs i x → ((n : ℕ) → ListsKey (take i xs) k n → ⊥) → (x.key ≡ k → ⊥)
-    → (n : ℕ) → ListsKey (take (i + 1) xs) k n → ⊥
-none_so_far xs i x k inside is before other n has =
-    let longer : take (i + 1) xs ≡ take i xs ++ x ∷ [] = ap (λ m. take m xs) (add-one i) ∙ take-suc xs i x inside ∙ ap (λ y. take i xs ++ y ∷ []) (sym is) in
-    elim (lists_join (take i xs) (x ∷ []) k n (subst (λ v. ListsKey v k n) longer has)) [
-      | inl first ↦ before n first
-      | inr (inl here) ↦ other here.0
-      | inr (inr later) ↦ later
-    ]
-
 -- One of the first ones, or the one after them.
 pub lists_next : (xs : List Keyed) (i : ℕ) (x : Keyed) (k : List ℕ) (n : ℕ) → i < length xs → x ≡ get_or xs i x → ListsKey (take (i + 1) xs) k n
-    → ListsKey (take i xs) k n ⊎ ((x.key ≡ k) × (x.number ≡ n))
+    → ListsKey (take i xs) k n ⊎ ((x.0 ≡ k) × (x.1 ≡ n))
 lists_next xs i x k n inside is has =
     let longer : take (i + 1) xs ≡ take i xs ++ x ∷ [] = ap (λ m. take m xs) (add-one i) ∙ take-suc xs i x inside ∙ ap (λ y. take i xs ++ y ∷ []) (sym is) in
     elim (lists_join (take i xs) (x ∷ []) k n (subst (λ v. ListsKey v k n) longer has)) [
@@ -69,12 +51,12 @@ numbers_join (x ∷ xs) ys n (inr later) = elim (numbers_join xs ys n later) [
   | inr last ↦ inr last
 ]
 
-pub number_at : (xs : List Keyed) (i : ℕ) (x : Keyed) (n : ℕ) → i < length xs → x ≡ get_or xs i x → x.number ≡ n → ListsNumber xs n
+pub number_at : (xs : List Keyed) (i : ℕ) (x : Keyed) (n : ℕ) → i < length xs → x ≡ get_or xs i x → x.1 ≡ n → ListsNumber xs n
 number_at [] i x n inside is so = absurd (omega (arith, inside))
-number_at (y ∷ xs) zero x n inside is so = inl (subst (λ (v : Keyed). v.number ≡ n) is so)
+number_at (y ∷ xs) zero x n inside is so = inl (subst (λ (v : Keyed). v.1 ≡ n) is so)
 number_at (y ∷ xs) (suc i) x n inside is so = inr (number_at xs i x n (omega (arith, inside)) is so)
 
-pub no_number_so_far : (xs : List Keyed) (i : ℕ) (x : Keyed) (n : ℕ) → i < length xs → x ≡ get_or xs i x → (ListsNumber (take i xs) n → ⊥) → (x.number ≡ n → ⊥)
+pub no_number_so_far : (xs : List Keyed) (i : ℕ) (x : Keyed) (n : ℕ) → i < length xs → x ≡ get_or xs i x → (ListsNumber (take i xs) n → ⊥) → (x.1 ≡ n → ⊥)
     → ListsNumber (take (i + 1) xs) n → ⊥
 no_number_so_far xs i x n inside is before other has =
     let longer : take (i + 1) xs ≡ take i xs ++ x ∷ [] = ap (λ m. take m xs) (add-one i) ∙ take-suc xs i x inside ∙ ap (λ y. take i xs ++ y ∷ []) (sym is) in
@@ -87,7 +69,7 @@ no_number_so_far xs i x n inside is before other has =
 -- A number is listed with some key, and the number of a listed key is listed.
 pub key_of_number : (xs : List Keyed) (n : ℕ) → ListsNumber xs n → (k : List ℕ) × ListsKey xs k n
 key_of_number [] n has = absurd has
-key_of_number (x ∷ xs) n (inl here) = (x.key, inl (refl, here))
+key_of_number (x ∷ xs) n (inl here) = (x.0, inl (refl, here))
 key_of_number (x ∷ xs) n (inr later) = let found = key_of_number xs n later in (found.0, inr found.1)
 
 pub number_of_key : (xs : List Keyed) (k : List ℕ) (n : ℕ) → ListsKey xs k n → ListsNumber xs n
@@ -212,6 +194,16 @@ last_with_key before es k is =
     let older : earlier es ≡ earlier before = ap earlier is ∙ earlier-snoc before (Key k) refl in
     omega (arith, ap length same, older)
 
+-- A key that the last entry says is no receipt's.
+pub key_is_new : (keys : List Keyed) (es : List Entry) (k : List ℕ) (n : ℕ) → IsLedger es → last_key es ≡ Some k → HasKeys keys es → ListsKey keys k n → ⊥
+key_is_new keys es k n ledger last has lists =
+    let (before, ends) = ends_with_key es k last in
+    elim (key_split before (Key k) k n (subst (λ v. HasKey v k n) ends (has.listed k n lists))) [
+      | inl earlier ↦ ledger before (Key k) [] ends n earlier
+      | inr (inl (b, content, is, at, number)) ↦ absurd (let bad : Key k ≡ Queued content = is in cc)
+      | inr (inr is) ↦ absurd (let bad : Key k ≡ Earlier n k = is in cc)
+    ]
+
 -- By an entry that gives none no key comes into force.
 pub keys_as_before : (keys : List Keyed) (es : List Entry) (e : Entry) → GivesNoKey e → HasKeys keys es → HasKeys keys (es ++ e ∷ [])
 keys_as_before keys es e none has = record {
@@ -237,9 +229,9 @@ keys_after_plain keys es content none has = record {
 
 -- One that comes directly after a key has that.
 pub keys_after_keyed : (keys : List Keyed) (es : List Entry) (content : Content) (key : List ℕ) (number : ℕ) → last_key es ≡ Some key → number ≡ last_number es + 1 → HasKeys keys es
-    → HasKeys (keys ++ record { key = key; number = number } ∷ []) (es ++ Queued content ∷ [])
+    → HasKeys (keys ++ (key, number) ∷ []) (es ++ Queued content ∷ [])
 keys_after_keyed keys es content key number last is has =
-    let one : List Keyed = record { key = key; number = number } ∷ [] in
+    let one : List Keyed = (key, number) ∷ [] in
     record {
       known = λ k n h. elim (key_split es (Queued content) k n h) [
         | inl before ↦ lists_more keys one k n (has.known k n before)
@@ -266,9 +258,9 @@ keys_after_keyed keys es content key number last is has =
 
 -- An entry says the key of a receipt of an older ledger.
 pub keys_after_earlier : (keys : List Keyed) (es : List Entry) (key : List ℕ) (number : ℕ) → 0 < number → number ≤ earlier es → HasKeys keys es
-    → HasKeys (keys ++ record { key = key; number = number } ∷ []) (es ++ Earlier number key ∷ [])
+    → HasKeys (keys ++ (key, number) ∷ []) (es ++ Earlier number key ∷ [])
 keys_after_earlier keys es key number from_one older has =
-    let one : List Keyed = record { key = key; number = number } ∷ [] in
+    let one : List Keyed = (key, number) ∷ [] in
     record {
       known = λ k n h. elim (key_split es (Earlier number key) k n h) [
         | inl before ↦ lists_more keys one k n (has.known k n before)

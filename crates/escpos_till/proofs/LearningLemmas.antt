@@ -1,5 +1,5 @@
 -- What entries that others have added do to what a machine knows, and to what it was to keep.
-use Rattle.std.proofs.Common.{ℕ, zero, suc, true, false, ◌==◌, ◌≡◌, ◌+◌, ◌-◌, ◌<◌, ◌≤◌, ◌⊎◌, inl, inr, cond, Option, Some, None, Result, Ok, Err, OnOk, IfErr, List, [], ◌∷◌, ◌++◌, length, length-drop, take, drop, get_or, refl, sym, ◌∙◌, ap, subst, append-nil, append_assoc, length-append, arith}
+use Rattle.std.proofs.Common.{ℕ, zero, suc, true, false, ◌==◌, ◌≡◌, ◌+◌, ◌-◌, ◌<◌, ◌⊎◌, inl, inr, cond, Option, Some, None, Result, Ok, Err, OnOk, IfErr, List, [], ◌∷◌, ◌++◌, length, length-drop, take, drop, get_or, refl, sym, ◌∙◌, ap, subst, append-nil, append_assoc, arith}
 use Rattle.std.specs.List.{AllByRecursion, position_from}
 use Rattle.std.proofs.Math.Nat.{le-max_right}
 use Rattle.std.proofs.lemmas.List.{take-append-drop, take_all}
@@ -12,7 +12,6 @@ use Rattle.escpos_till.specs.declared.entry.Entry.TheVariants as entry
 use Rattle.escpos_till.specs.declared.entry.Entry.TheVariants.{Queued, Tried, Recorded, Raised, Cancelled}
 use Rattle.escpos_till.specs.declared.stage.Due.{Due}
 use Rattle.escpos_till.specs.declared.stage.Stage.{Stage}
-use Rattle.escpos_till.specs.declared.stage.Stage.TheVariants as stage
 use Rattle.escpos_till.specs.declared.stage.Then.{Then}
 use Rattle.escpos_till.specs.declared.stage.Then.TheVariants as then
 use Rattle.escpos_till.specs.declared.state.ReceiptState.{ReceiptState}
@@ -20,7 +19,7 @@ use Rattle.escpos_till.specs.declared.state.ReceiptState.TheVariants as state
 use Rattle.escpos_till.specs.declared.store.StoreFault.{StoreFault}
 use Rattle.escpos_till.specs.Book.{HasTryRoom, IsBookOf}
 use Rattle.escpos_till.specs.Delivers.{marks_taken, most_entries}
-use Rattle.escpos_till.specs.Entries.{IsLedger, MayFollow, Waits, cancel_place_of, earlier, is_try_of, last_number, place_of, record_of, recorded, state_by, state_of, times_tried}
+use Rattle.escpos_till.specs.Entries.{IsLedger, MayFollow, Waits, cancel_place_of, earlier, is_try_of, place_of, record_of, recorded, state_by, state_of, times_tried}
 use Rattle.escpos_till.specs.Learning.{AreOthers, FollowAll, IsOthers, Revises, StandsIn, WaitsOrCancelled}
 use Rattle.escpos_till.specs.Machine.{Fits, Suits}
 use Rattle.escpos_till.proofs.EntryLemmas.{is_other, last_grows, ledger-snoc, one_longer, state_waits}

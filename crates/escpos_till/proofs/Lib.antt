@@ -1,6 +1,7 @@
 mod Worked
 pub mod EntryLemmas
 pub mod KeyLemmas
+mod KeyedLemmas
 mod RenewLemmas
 pub mod StateLemmas
 pub mod CopyLemmas

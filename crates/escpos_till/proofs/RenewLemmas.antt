@@ -1,27 +1,22 @@
 -- What is carried over to a ledger that goes on from an older one.
-use Rattle.std.proofs.Common.{ℕ, zero, suc, ◌≡◌, ◌≢◌, ◌+◌, ◌-◌, ◌<◌, ◌≤◌, ◌⊎◌, inl, inr, Bool, true, false, cond, Option, Some, None, List, [], ◌∷◌, ◌++◌, length, length-drop, drop, take, get_or, refl, sym, ◌∙◌, ap, subst, append-nil, append_assoc, length-append, add-zero, arith}
-use Rattle.std.specs.Prelude.{◌==◌, ◌&&◌, ◌↔◌, filter, is_none, nat_lt, slice_get}
+use Rattle.std.proofs.Common.{ℕ, zero, suc, ◌≡◌, ◌≢◌, ◌+◌, ◌-◌, ◌<◌, ◌≤◌, ◌⊎◌, inl, inr, Bool, true, false, cond, Option, Some, None, List, [], ◌∷◌, ◌++◌, length, length-drop, drop, take, get_or, refl, sym, ◌∙◌, ap, subst, append-nil, length-append, add-zero, arith}
+use Rattle.std.specs.Prelude.{◌==◌, ◌&&◌, filter, is_none, nat_lt, slice_get}
 use Rattle.std.specs.List.{filter_map, position_from}
 use Rattle.std.proofs.lemmas.Bool.Decides.{nat_tests}
 use Rattle.std.proofs.lemmas.List.Elements.{filter-append, filter_map-append}
-use Rattle.std.proofs.lemmas.List.Sums.{sum_by-append}
 use Rattle.escpos_till.specs.declared.book.Book.{Book}
 use Rattle.escpos_till.specs.declared.entry.Content.{Content}
 use Rattle.escpos_till.specs.declared.entry.Entry.{Entry}
 use Rattle.escpos_till.specs.declared.entry.Entry.TheVariants.{Queued, Tried, Recorded, Raised, Cancelled, Key, Renewed, Earlier}
-use Rattle.escpos_till.specs.declared.keyed.Keyed.{Keyed}
-use Rattle.escpos_till.specs.declared.renewing.TheConstants.{KEYS_KEPT}
 use Rattle.escpos_till.specs.declared.state.ReceiptState.{ReceiptState}
 use Rattle.escpos_till.specs.declared.state.ReceiptState.TheVariants as state
 use Rattle.escpos_till.specs.declared.tries.Try.{Try}
 use Rattle.escpos_till.specs.Book.{IsBookOf}
-use Rattle.escpos_till.specs.Entries.{HasKey, IsLedger, Taken, Waits, cancel_of, cancel_place_of, cancelled, content_of, contents, earlier, earlier_of, is_open, is_try_of, last_number, next_free, numbered_from, place_here, place_of, record_of, recorded, states, taken, times_tried, waiting}
-use Rattle.escpos_till.specs.Keyed.{ListsKey}
+use Rattle.escpos_till.specs.Entries.{IsLedger, Taken, Waits, cancel_of, cancel_place_of, cancelled, content_of, contents, earlier, earlier_of, is_open, is_try_of, last_number, numbered_from, place_here, place_of, record_of, recorded, times_tried, waiting}
 use Rattle.escpos_till.specs.Renewing.{BeginsRenewed, Carried, KeysAgree, Renews, SaysNothing, above, is_carried, tries_above}
-use Rattle.escpos_till.specs.States.{IsEnded}
 use Rattle.escpos_till.specs.Tries.{HasTry, tries, try_of}
 use Rattle.escpos_till.proofs.BookLemmas.{first_waits}
-use Rattle.escpos_till.proofs.EntryLemmas.{earlier-snoc, ended_one, is_other, last-states, length-states, one_longer, one_more_time, same_times, waiting_state, within_states}
+use Rattle.escpos_till.proofs.EntryLemmas.{earlier-snoc, ended_one, is_other, last-states, length-states, one_longer, one_more_time, same_times, waiting_state}
 use Rattle.escpos_till.proofs.StateLemmas.{waiting_is_not}
 
 -- ## The beginning

@@ -5,9 +5,8 @@ use Rattle.escpos_till.specs.declared.entry.Content.{Content}
 use Rattle.escpos_till.specs.declared.entry.Entry.{Entry}
 use Rattle.escpos_till.specs.declared.entry.Entry.TheVariants as entry
 use Rattle.escpos_till.specs.declared.state.ReceiptState.TheVariants as state
-use Rattle.escpos_till.specs.declared.keyed.Keyed.{Keyed}
 use Rattle.escpos_till.specs.Entries.{HasKey, IsLedger, MayFollow, contents, earlier, heard, last_key, next_free, recorded, states}
-use Rattle.escpos_till.specs.Keyed.{ListsKey}
+use Rattle.escpos_till.specs.Keyed.{Keyed, ListsKey}
 use Rattle.escpos_till.specs.States.{IsFirstWaiting}
 use Rattle.escpos_till.specs.Tries.{tries}
 

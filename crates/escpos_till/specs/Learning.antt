@@ -3,7 +3,7 @@
 -- A machine that delivers has its ledger to itself only while it keeps an entry. Between two of its entries others may take receipts, with keys or
 -- without, raise the next mark number and cancel receipts. None of them tries a receipt or records one, since no two machines deliver at
 -- the same time.
-use Rattle.std.specs.Prelude.{ℕ, ◌≡◌, ◌⊎◌, ◌+◌, ◌<◌, ◌≤◌, List, [], ◌∷◌, ◌++◌, length}
+use Rattle.std.specs.Prelude.{ℕ, ◌≡◌, ◌⊎◌, ◌+◌, ◌<◌, ◌≤◌, List, [], ◌∷◌, ◌++◌}
 use Rattle.std.specs.List.{AllByRecursion}
 use Rattle.escpos_host.specs.declared.host.HostError.TheVariants as error
 use Rattle.escpos_host.specs.declared.send.SendFault.TheVariants as fault

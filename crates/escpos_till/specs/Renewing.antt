@@ -1,13 +1,12 @@
 -- A ledger that goes on from an older one: what it has of it.
-use Rattle.std.specs.Prelude.{ℕ, Bool, false, ◌==◌, ◌≡◌, ◌⊎◌, ◌↔◌, ◌+◌, ◌-◌, ◌<◌, ◌≤◌, nat_lt, Option, Some, None, List, [], ◌∷◌, ◌++◌, drop, filter, length}
+use Rattle.std.specs.Prelude.{ℕ, Bool, false, ◌==◌, ◌≡◌, ◌⊎◌, ◌↔◌, ◌+◌, ◌-◌, ◌<◌, ◌≤◌, nat_lt, List, [], ◌∷◌, drop, filter, length}
 use Rattle.escpos_till.specs.declared.book.Book.{Book}
 use Rattle.escpos_till.specs.declared.entry.Entry.{Entry}
 use Rattle.escpos_till.specs.declared.entry.Entry.TheVariants as entry
-use Rattle.escpos_till.specs.declared.keyed.Keyed.{Keyed}
 use Rattle.escpos_till.specs.declared.renewing.TheConstants.{KEYS_KEPT}
 use Rattle.escpos_till.specs.declared.tries.Try.{Try}
 use Rattle.escpos_till.specs.Entries.{HasKey, IsLedger, Waits, cancelled, contents, earlier, heard, last_number, next_free, recorded, times_tried, waiting}
-use Rattle.escpos_till.specs.Keyed.{ListsKey}
+use Rattle.escpos_till.specs.Keyed.{Keyed, ListsKey}
 use Rattle.escpos_till.specs.Tries.{HasTry, tries}
 
 -- The numbers above this one.

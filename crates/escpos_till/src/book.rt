@@ -18,7 +18,7 @@ ghost use Rattle.escpos_till.specs.Learning.{FollowAll, NotesAll};
 
 use crate::entry::{Content, Entry};
 use crate::key::ReceiptKey;
-use crate::keyed::{Keyed, has_number, number_with};
+use crate::keyed::Keys;
 use crate::number::ReceiptNumber;
 use crate::state::{
     ReceiptState, first_besides, first_waiting_from, once_cancelled, one_try_more, tries_in,
@@ -57,7 +57,7 @@ pub struct Book {
     /// All tries of receipts, in order.
     pub(crate) tries: Vec<Try>,
     /// The keys of receipts, each with its receipt's number.
-    pub(crate) keys: Vec<Keyed>,
+    pub(crate) keys: Keys,
     /// The key that the last entry says, if it says one.
     pub(crate) last_key: Option<ReceiptKey>,
     /// The next mark number.
@@ -81,7 +81,7 @@ impl Book {
             first_waiting: 0,
             recorded: 0,
             tries: Vec::new(alloc),
-            keys: Vec::new(alloc),
+            keys: Keys::new(alloc),
             last_key: None,
             next: 0,
             heard: 0,
@@ -167,7 +167,7 @@ impl Book {
         ensures { (entries : List Entry) → IsBookOf self.now entries → MatchOption result
             ((number : ℕ) → HasKey entries key.now number → ⊥) (λ number. HasKey entries key.now number) }
     {
-        number_with(&self.keys, key)
+        self.keys.number_with(key)
     }
 
     // Whether no receipt has this key.
@@ -195,7 +195,7 @@ impl Book {
     fn has_key(&self, number: ReceiptNumber) -> bool
         ensures { (entries : List Entry) → IsBookOf self.now entries → IsTrue result ↔ ((key : List ℕ) × HasKey entries key number) }
     {
-        has_number(&self.keys, number)
+        self.keys.has_number(number)
     }
 
     /// Whether an entry may come after those that this is the book of.
@@ -310,7 +310,7 @@ impl Book {
     {
         self.states.reserve(1)?;
         self.contents.reserve(1)?;
-        self.keys.reserve(1)
+        self.keys.reserve()
     }
 
     /// Whether there is room for one more try.
@@ -400,7 +400,7 @@ impl Book {
                 self.count += 1;
             }
             Entry::Earlier { number, key } => {
-                self.keys.push_reserved(Keyed { key, number });
+                self.keys.push_reserved(key, number);
                 self.last_key = None;
                 self.count += 1;
             }
@@ -419,7 +419,7 @@ impl Book {
         self.count += 1;
         if let Some(key) = self.last_key.take() {
             let number = self.last_number();
-            self.keys.push_reserved(Keyed { key, number });
+            self.keys.push_reserved(key, number);
         }
     }
 

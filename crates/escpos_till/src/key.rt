@@ -16,7 +16,7 @@ pub const KEY_CHARACTERS: usize = 64;
 const _: () = prove!(KEY_CHARACTERS == 64);
 
 /// The key of a receipt: 1 to 64 characters, each 21 to 7E hexadecimal. The model is the list of their bytes.
-#[derive(Debug, Drop)]
+#[derive(Debug, PartialEq, Eq, Hash, Drop)]
 pub struct ReceiptKey {
     bytes: ArrayVec<u8, KEY_CHARACTERS>,
 }
@@ -30,6 +30,8 @@ impl Model for ReceiptKey {
     ghost view = { λ k. k.bytes.items };
 
     ghost invariant = { λ k. IsKey k.bytes.items };
+
+    ghost inverse = { λ v. record { bytes = record { items = v } } };
 }
 
 impl ReceiptKey {

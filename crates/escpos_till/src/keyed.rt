@@ -1,57 +1,109 @@
 //! The keys of receipts, each with its receipt's number.
 
-ghost use Rattle.std.specs.Prelude.{◌≡◌, ◌↔◌, ℕ, IsTrue, MatchOption};
+ghost use Rattle.std.specs.Prelude.{◌≡◌, ◌≤◌, ◌<◌, ◌++◌, ◌∷◌, [], ◌↔◌, ℕ, IsTrue, MatchOption, OnOk, Some, length, slice_get};
 ghost use Rattle.escpos_till.specs.Keyed.{ListsKey, ListsNumber};
 
 use crate::key::ReceiptKey;
 use crate::number::ReceiptNumber;
+use indexmap::IndexMap;
+use std::alloc::{AllocError, Global};
+use std::marker::Model;
 
-/// The key of a receipt, and the receipt's number.
-#[derive(Debug, Drop)]
-pub struct Keyed {
-    /// The key.
-    pub key: ReceiptKey,
-    /// The receipt's number.
-    pub number: ReceiptNumber,
+/// The keys of receipts, in order, each with its receipt's number.
+#[derive(Drop)]
+pub struct Keys {
+    map: IndexMap<ReceiptKey, ReceiptNumber>,
 }
 
-// The number that stands with a key among these; `None` if the key isn't among them.
-pub(crate) fn number_with(keys: &[Keyed], key: &ReceiptKey) -> Option<ReceiptNumber>
-    ensures { MatchOption result ((number : ℕ) → ListsKey keys.now key.now number → ⊥) (λ number. ListsKey keys.now key.now number) }
-{
-    for keyed in keys {
-        if keyed.key.is_same(key) {
-            return Some(keyed.number);
+impl Model for Keys {
+    ghost use Rattle.std.specs.Prelude.{◌+◌, length};
+    ghost use Rattle.escpos_till.specs.Keyed.{KeyTable};
+    ghost use Rattle.indexmap.specs.IndexMap.{spare};
+
+    ghost Value = { KeyTable };
+
+    ghost view = { λ k. record { items = k.map.entries; cap = length k.map.entries + spare k.map } };
+}
+
+impl Keys {
+    /// No keys. Allocates nothing.
+    pub(crate) fn new(alloc: Global) -> Self
+        ensures { result.items ≡ [] }
+    {
+        Keys {
+            map: IndexMap::new(alloc),
         }
     }
-    None
-}
 
-// Whether a key stands with this number among these.
-pub(crate) fn has_number(keys: &[Keyed], number: ReceiptNumber) -> bool
-    ensures { IsTrue result ↔ ListsNumber keys.now number }
-{
-    for keyed in keys {
-        if is_of(keyed, number) {
-            return true;
+    /// Makes room for one more.
+    pub(crate) fn reserve(&mut self) -> Result<(), AllocError>
+        ensures room { OnOk result (length self.new.items < self.new.cap) }
+        ensures same { self.new.items ≡ self.old.items }
+    {
+        self.map.reserve(1)
+    }
+
+    /// The number that stands with a key among these; `None` if the key isn't among them.
+    pub(crate) fn number_with(&self, key: &ReceiptKey) -> Option<ReceiptNumber>
+        ensures { MatchOption result ((number : ℕ) → ListsKey self.now.items key.now number → ⊥) (λ number. ListsKey self.now.items key.now number) }
+    {
+        self.map.get(key).copied()
+    }
+
+    /// How many there are.
+    pub(crate) fn len(&self) -> usize
+        ensures { result ≡ length self.now.items }
+    {
+        self.map.len()
+    }
+
+    /// The key at a place, with its receipt's number.
+    pub(crate) fn at(&self, place: usize) -> (&ReceiptKey, ReceiptNumber)
+        requires { place < length self.now.items }
+        ensures { slice_get self.now.items place ≡ Some (result.0.now, result.1) }
+    {
+        match self.map.get_index(place) {
+            Some((key, number)) => (key, *number),
+            None => unreachable!(),
         }
     }
-    false
+
+    /// Whether a key stands with this number among these.
+    pub(crate) fn has_number(&self, number: ReceiptNumber) -> bool
+        ensures { IsTrue result ↔ ListsNumber self.now.items number }
+    {
+        for place in 0..self.len() {
+            let (_, other) = self.at(place);
+            if is_same(other, number) {
+                return true;
+            }
+        }
+        false
+    }
+
+    /// Adds the key of a receipt, which has none so far.
+    pub(crate) fn push_reserved(&mut self, key: ReceiptKey, number: ReceiptNumber)
+        requires room { length self.old.items < self.old.cap }
+        requires new { (number : ℕ) → ListsKey self.old.items key number → ⊥ }
+        ensures { self.new.items ≡ self.old.items ++ (key, number) ∷ [] }
+    {
+        let _ = self.map.insert(key, number);
+    }
 }
 
-// Whether it is the key of the receipt with this number.
-fn is_of(keyed: &Keyed, number: ReceiptNumber) -> bool
-    ensures { IsTrue result ↔ keyed.now.number ≡ number }
+// Whether these are the number of one receipt.
+fn is_same(one: ReceiptNumber, other: ReceiptNumber) -> bool
+    ensures { IsTrue result ↔ one ≡ other }
 {
-    keyed.number == number
+    one == other
 }
 
-// Whether a key stands among these with its number.
-pub(crate) fn is_listed(keys: &[Keyed], keyed: &Keyed) -> bool
-    ensures { IsTrue result → ListsKey keys.now keyed.now.key keyed.now.number }
+// Whether a key stands among these with this number.
+pub(crate) fn is_listed(keys: &Keys, key: &ReceiptKey, number: ReceiptNumber) -> bool
+    ensures { IsTrue result → ListsKey keys.now.items key.now number }
 {
-    match number_with(keys, &keyed.key) {
-        Some(number) => number == keyed.number,
+    match keys.number_with(key) {
+        Some(other) => other == number,
         None => false,
     }
 }

@@ -36,7 +36,7 @@ pub use driver::{drive, drive_within};
 pub use entry::{Content, Entry, Text};
 pub use further::Further;
 pub use key::{KEY_CHARACTERS, ReceiptKey};
-pub use keyed::Keyed;
+pub use keyed::Keys;
 pub use learning::others_since;
 pub use machine::TillMachine;
 pub use memory_store::{Failure, MemoryStore, copies};

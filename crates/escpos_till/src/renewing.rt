@@ -12,7 +12,9 @@ ghost use Rattle.escpos_till.specs.Renewing.{BeginsRenewed, Carried, KeysAgree, 
 
 use crate::book::{Book, NoBook};
 use crate::entry::Entry;
-use crate::keyed::{Keyed, is_listed};
+use crate::key::ReceiptKey;
+use crate::keyed::{Keys, is_listed};
+use crate::number::ReceiptNumber;
 use std::alloc::{AllocError, Global};
 
 /// A new ledger has the keys of so many receipts that were taken last, and of all that wait.
@@ -88,28 +90,29 @@ fn beginning(alloc: Global, book: &Book, last: u32) -> Result<Vec<Entry>, AllocE
         last,
         heard: book.heard,
     })?;
-    for keyed in &book.keys {
-        if is_over_and_kept(book, last, keyed) {
+    for place in 0..book.keys.len() {
+        let (key, number) = book.keys.at(place);
+        if is_over_and_kept(book, last, number) {
             new.push(Entry::Earlier {
-                number: keyed.number,
-                key: keyed.key.copy(),
+                number,
+                key: key.copy(),
             })?;
         }
     }
     Ok(new)
 }
 
-// Whether the receipt with this key is over, and one of those taken last.
-fn is_over_and_kept(book: &Book, last: u32, keyed: &Keyed) -> bool {
-    keyed.number.get() <= last as usize && is_late(book, keyed)
+// Whether the receipt with this number is over, and one of those taken last.
+fn is_over_and_kept(book: &Book, last: u32, number: ReceiptNumber) -> bool {
+    number.get() <= last as usize && is_late(book, number)
 }
 
-// Whether the receipt with this key is one of those taken last.
-fn is_late(book: &Book, keyed: &Keyed) -> bool
-    ensures { IsTrue result ↔ book.now.earlier + length book.now.states.items < keyed.now.number + KEYS_KEPT }
+// Whether the receipt with this number is one of those taken last.
+fn is_late(book: &Book, number: ReceiptNumber) -> bool
+    ensures { IsTrue result ↔ book.now.earlier + length book.now.states.items < number + KEYS_KEPT }
 {
     let taken = book.earlier as usize + book.states.len();
-    taken < KEYS_KEPT || taken - KEYS_KEPT < keyed.number.get()
+    taken < KEYS_KEPT || taken - KEYS_KEPT < number.get()
 }
 
 // Adds the entries about receipts with numbers above `last`, each receipt with its key.
@@ -226,12 +229,13 @@ fn keys_agree(book: &Book, last: u32, found: &Book) -> bool
 }
 
 // Whether the keys of a book that are kept are among these.
-fn has_kept_keys(book: &Book, last: u32, found: &[Keyed]) -> bool
+fn has_kept_keys(book: &Book, last: u32, found: &Keys) -> bool
     ensures { IsTrue result → (key : List ℕ) (number : ℕ) → ListsKey book.now.keys.items key number
-        → (last < number) ⊎ (book.now.earlier + length book.now.states.items < number + KEYS_KEPT) → ListsKey found.now key number }
+        → (last < number) ⊎ (book.now.earlier + length book.now.states.items < number + KEYS_KEPT) → ListsKey found.now.items key number }
 {
-    for keyed in &book.keys {
-        if !is_kept_in(book, last, keyed, found) {
+    for place in 0..book.keys.len() {
+        let (key, number) = book.keys.at(place);
+        if !is_kept_in(book, last, key, number, found) {
             return false;
         }
     }
@@ -239,26 +243,27 @@ fn has_kept_keys(book: &Book, last: u32, found: &[Keyed]) -> bool
 }
 
 // Whether a key of a book that is kept is among these.
-fn is_kept_in(book: &Book, last: u32, keyed: &Keyed, found: &[Keyed]) -> bool
-    ensures { IsTrue result → (last < keyed.now.number) ⊎ (book.now.earlier + length book.now.states.items < keyed.now.number + KEYS_KEPT)
-        → ListsKey found.now keyed.now.key keyed.now.number }
+fn is_kept_in(book: &Book, last: u32, key: &ReceiptKey, number: ReceiptNumber, found: &Keys) -> bool
+    ensures { IsTrue result → (last < number) ⊎ (book.now.earlier + length book.now.states.items < number + KEYS_KEPT)
+        → ListsKey found.now.items key.now number }
 {
-    !is_kept(book, last, keyed) || is_listed(found, keyed)
+    !is_kept(book, last, number) || is_listed(found, key, number)
 }
 
-// Whether a key of a book is kept: its receipt isn't over, or is one of those taken last.
-fn is_kept(book: &Book, last: u32, keyed: &Keyed) -> bool
-    ensures { (last < keyed.now.number) ⊎ (book.now.earlier + length book.now.states.items < keyed.now.number + KEYS_KEPT) → IsTrue result }
+// Whether the key of a receipt with this number is kept: the receipt isn't over, or is one of those taken last.
+fn is_kept(book: &Book, last: u32, number: ReceiptNumber) -> bool
+    ensures { (last < number) ⊎ (book.now.earlier + length book.now.states.items < number + KEYS_KEPT) → IsTrue result }
 {
-    (last as usize) < keyed.number.get() || is_late(book, keyed)
+    (last as usize) < number.get() || is_late(book, number)
 }
 
 // Whether each of these keys is among those, with its number.
-fn are_listed(keys: &[Keyed], all: &[Keyed]) -> bool
-    ensures { IsTrue result → (key : List ℕ) (number : ℕ) → ListsKey keys.now key number → ListsKey all.now key number }
+fn are_listed(keys: &Keys, all: &Keys) -> bool
+    ensures { IsTrue result → (key : List ℕ) (number : ℕ) → ListsKey keys.now.items key number → ListsKey all.now.items key number }
 {
-    for keyed in keys {
-        if !is_listed(all, keyed) {
+    for place in 0..keys.len() {
+        let (key, number) = keys.at(place);
+        if !is_listed(all, key, number) {
             return false;
         }
     }

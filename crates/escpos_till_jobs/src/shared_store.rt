@@ -10,6 +10,7 @@ ghost use Rattle.escpos_till.specs.Appending.{added};
 ghost use Rattle.escpos_till.specs.Learning.{AreOthers};
 ghost use Rattle.escpos_till_jobs.specs.SharedStores.{SharedHolds, SharedLeaves};
 
+use crate::opening::no_store;
 use crate::perform::Ledgers;
 use crate::task::LedgerPath;
 use escpos_till::{Appended, Entry, NoStore, Store, StoreFault, copies, others_since};
@@ -255,16 +256,6 @@ impl<F: Ledgers<S> + Drop, S: Store + Drop> Store for SharedStore<F, S> {
     ghost one_list = { λ s entries others faithful held also. sym held.1 ∙ also.1 };
 
     ghost outlives = { λ s entries left faithful held leaves. shared_outlives S.faithful S.holds S.leaves S.outlives s entries left held leaves };
-}
-
-// The same reason, where a store was to be opened.
-fn no_store(fault: StoreFault) -> NoStore
-    ensures { result ≡ NoStore.Memory ↔ fault ≡ StoreFault.Memory }
-{
-    match fault {
-        StoreFault::Failed => NoStore::Failed,
-        StoreFault::Memory => NoStore::Memory,
-    }
 }
 
 // The same reason, where a store is open no more.

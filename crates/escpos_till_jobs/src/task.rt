@@ -1,6 +1,7 @@
 //! What a till may ask the program to do with its ledger.
 
-ghost use Rattle.std.specs.Prelude.{◌≡◌};
+ghost use Rattle.std.specs.Prelude.{◌≡◌, None, Some};
+ghost use Rattle.escpos_till_jobs.specs.Performing.{OfRenew, UnlessRenew};
 
 use crate::deliver::Delivery;
 use escpos_command::LineWidth;
@@ -86,4 +87,17 @@ pub enum TillTask<'a> {
         ledger: LedgerPath<'a>,
         first: Option<u32>,
     },
+}
+
+impl<'a> TillTask<'a> {
+    /// Where the ledger is that the task renews; `None` if it renews none.
+    pub fn renewed_path(&self) -> Option<LedgerPath<'a>>
+        ensures renewal { OfRenew (λ path new. result ≡ Some path) self.now }
+        ensures none { UnlessRenew (result ≡ None) self.now }
+    {
+        match self {
+            TillTask::Renew { ledger, .. } => Some(LedgerPath::new(ledger.text())),
+            _ => None,
+        }
+    }
 }

@@ -31,7 +31,8 @@ use Rattle.escpos_till_model.specs.Carried.{AreApart, Carried, CarriesBy, HasOwn
 use Rattle.escpos_till_model.specs.Kept.{Hand}
 use Rattle.escpos_till_model.specs.Known.{BookMayLag, Holds, IsHostOf, IsMachineIn, IsToKeep, IsToSendNext, IsWorld}
 use Rattle.escpos_till_model.specs.World.{HasCome, IsSendable, World}
-use Rattle.escpos_till_model.proofs.Carrying.{IsQuiet, SaysOn, TalksOn, apart_more, both_grow, came_says, connected_so, ended_so, grows, hung_so, kept_by, learned_quiet, lost_quiet, news_on, others_grow, missed_so, note_quiet, one_put, part_put, quiet_on, same_or_quiet, second_follows, sent_next}
+use Rattle.escpos_till_model.proofs.CarriedCalls.{IsQuiet, SaysOn, TalksOn, apart_more, both_grow, connected_so, ended_so, grows, hung_so, learned_quiet, lost_quiet, others_grow, missed_so, note_quiet, one_put, part_put, quiet_on, same_or_quiet, second_follows}
+use Rattle.escpos_till_model.proofs.Carrying.{came_says, kept_by, news_on, sent_next}
 use Rattle.escpos_till_model.proofs.Driven.{does, shows_around}
 use Rattle.escpos_till_model.proofs.DriverDoes.{IsEnding, ends_on, lags_ends, unsure_lags}
 use Rattle.escpos_till_model.proofs.Rows.{EveryWorld}

@@ -7,6 +7,7 @@ pub mod LinesKept
 pub mod LateLemmas
 pub mod WorldCalls
 pub mod WorldStore
+pub mod HostHears
 pub mod WorldHears
 pub mod WorldKeeps
 pub mod WorldLearns
@@ -19,6 +20,7 @@ mod DrivenDeeds
 mod Driven
 pub mod TillHappens
 mod TillWorlds
+mod CarriedCalls
 mod Carrying
 mod Widths
 mod DriverDoes

@@ -35,7 +35,7 @@ use Rattle.escpos_till_model.specs.World.{Calls, GoesOnWire, Hears, Idles, Runs,
 use Rattle.escpos_till_model.specs.declared.event.Happening.TheVariants as event
 use Rattle.std.proofs.lemmas.Option.{same_Some}
 use Rattle.escpos_till_model.proofs.DrivenDeeds.{refused_down}
-use Rattle.escpos_till_model.proofs.WorldHears.{heard_one}
+use Rattle.escpos_till_model.proofs.HostHears.{heard_one}
 use Rattle.escpos_till_model.proofs.LinesKept.{down_or_up}
 use Rattle.escpos_till_model.proofs.WorldCalls.{parts}
 

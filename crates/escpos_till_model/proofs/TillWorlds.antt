@@ -33,7 +33,7 @@ use Rattle.escpos_command.specs.CommandTable.{AreCommands}
 use Rattle.escpos_receipt.specs.Whole.{Whole}
 use Rattle.escpos_link.specs.Trusted.{IsFitting, IsTrusted}
 use Rattle.escpos_till_model.proofs.WorldStore.{down_of}
-use Rattle.escpos_till_model.proofs.WorldHears.{take_front}
+use Rattle.escpos_till_model.proofs.HostHears.{take_front}
 use Rattle.std.proofs.Common.{Result, Ok, Err, IfErr}
 use Rattle.std.specs.Prelude.{Bool, OnOk, IsTrue, min, true, false}
 use Rattle.std.proofs.Math.Nat.{min-le_left, min-le_right}

@@ -1,5 +1,5 @@
 -- One entry after the other.
-use Rattle.std.proofs.Common.{◌≡◌, ◌∙◌, ap, refl, sym}
+use Rattle.std.proofs.Common.{◌∙◌, ap, refl, sym}
 use Rattle.std.specs.Prelude.{is_some}
 use Rattle.escpos_till.specs.Machine.{entry_with_at}
 use Rattle.escpos_till.proofs.DriverLemmas.{kept_both}

@@ -1,5 +1,5 @@
 -- What is to be sent is the first receipt that waits once this one is recorded, and nothing else is left to be put or heard.
-use Rattle.std.proofs.Common.{◌+◌, ◌<◌, ◌∙◌, Some, ap, arith, refl, rules}
+use Rattle.std.proofs.Common.{Some, ap, arith, refl, rules}
 use Rattle.escpos_till.specs.Contents.{content_with}
 use Rattle.escpos_till.proofs.further.next_due.Goals as goal
 

@@ -3,5 +3,5 @@ use Rattle.std.proofs.Common.{ℕ, List, take}
 use Rattle.escpos_till.specs.Keyed.{ListsKey}
 use Rattle.escpos_till.proofs.renewing.are_listed.Given as goal
 
-abbrev pub invariant-loop-keyed : goal.invariant-loop-keyed
-invariant-loop-keyed l = (key : List ℕ) (number : ℕ) → ListsKey (take l.keyed-index l.keys) key number → ListsKey l.all key number
+abbrev pub invariant-loop-place : goal.invariant-loop-place
+invariant-loop-place l = (key : List ℕ) (number : ℕ) → ListsKey (take l.place l.keys.items) key number → ListsKey l.all.items key number

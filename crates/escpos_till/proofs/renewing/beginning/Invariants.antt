@@ -2,5 +2,5 @@
 use Rattle.escpos_till.specs.Renewing.{SaysNothing}
 use Rattle.escpos_till.proofs.renewing.beginning.Given as goal
 
-abbrev pub invariant-loop-keyed : goal.invariant-loop-keyed
-invariant-loop-keyed l = SaysNothing l.last l.new.items
+abbrev pub invariant-loop-place : goal.invariant-loop-place
+invariant-loop-place l = SaysNothing l.last l.new.items

@@ -4,6 +4,6 @@ use Rattle.escpos_till.specs.declared.renewing.TheConstants.{KEYS_KEPT}
 use Rattle.escpos_till.specs.Keyed.{ListsKey}
 use Rattle.escpos_till.proofs.renewing.has_kept_keys.Given as goal
 
-abbrev pub invariant-loop-keyed : goal.invariant-loop-keyed
-invariant-loop-keyed l = (key : List ℕ) (number : ℕ) → ListsKey (take l.keyed-index l.keyed-items) key number
-    → (l.last < number) ⊎ (l.book.earlier + length l.book.states.items < number + KEYS_KEPT) → ListsKey l.found key number
+abbrev pub invariant-loop-place : goal.invariant-loop-place
+invariant-loop-place l = (key : List ℕ) (number : ℕ) → ListsKey (take l.place l.book.keys.items) key number
+    → (l.last < number) ⊎ (l.book.earlier + length l.book.states.items < number + KEYS_KEPT) → ListsKey l.found.items key number

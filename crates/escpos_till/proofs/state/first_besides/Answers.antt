@@ -1,7 +1,6 @@
 -- The next one that waits, where the first is left out; and else the first.
-use Rattle.std.proofs.Common.{◌≤◌, ◌<◌, length, inl, inr, ap, arith, subst, sym}
-use Rattle.escpos_till.specs.States.{IsFirstBesides, IsNextWaiting}
-use Rattle.escpos_till.proofs.StateLemmas.{besides_first, besides_other}
+use Rattle.std.proofs.Common.{inl, inr, arith}
+use Rattle.escpos_till.proofs.StateLemmas.{besides_other}
 use Rattle.escpos_till.proofs.state.first_besides.Goals as goal
 
 pub returns : goal.returns

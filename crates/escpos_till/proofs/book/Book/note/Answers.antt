@@ -39,7 +39,7 @@ returns-in-Renewed-clause-notes c entries book ledger follows =
 
 pub returns-in-Earlier-clause-notes : goal.returns-in-Earlier-clause-notes
 returns-in-Earlier-clause-notes c entries book ledger follows =
-    book_after_earlier c.args.self.now _ entries c.args.entry c.in-Earlier.number c.in-Earlier.key book follows c.in-Earlier.is refl refl refl refl refl refl refl refl c.push_reserved-in-Earlier.ensures.items refl refl
+    book_after_earlier c.args.self.now _ entries c.args.entry c.in-Earlier.number c.in-Earlier.key book follows c.in-Earlier.is refl refl refl refl refl refl refl refl c.push_reserved-in-Earlier.ensures refl refl
 
 pub index-requires : goal.index-requires
 index-requires c =

@@ -1,5 +1,5 @@
 -- One more receipt is cancelled.
-use Rattle.std.proofs.Common.{◌-◌, ◌∙◌, List, ap, slice_get, sym, subst, refl, arith}
+use Rattle.std.proofs.Common.{◌∙◌, List, ap, slice_get, sym, subst, refl, arith}
 use Rattle.escpos_till.specs.States.{IsEnded, IsFirstWaiting}
 use Rattle.escpos_till.specs.Entries.{times_tried}
 use Rattle.escpos_till.specs.declared.state.ReceiptState.{ReceiptState}

@@ -1,5 +1,5 @@
 -- One more receipt is recorded.
-use Rattle.std.proofs.Common.{◌-◌, ◌∙◌, List, max, ap, slice_get, sym, subst, refl, arith}
+use Rattle.std.proofs.Common.{◌∙◌, List, max, ap, slice_get, sym, subst, refl, arith}
 use Rattle.escpos_till.specs.States.{IsFirstWaiting}
 use Rattle.escpos_till.specs.declared.state.ReceiptState.{ReceiptState}
 use Rattle.escpos_till.specs.declared.state.ReceiptState.TheVariants as state

@@ -1,7 +1,6 @@
 -- Where no number is said, it is that after the last try, which is within the numbers of marks.
-use Rattle.std.proofs.Common.{◌≡◌, ◌≤◌, ◌∙◌, List, ℕ, ap, arith, subst}
-use Rattle.escpos_host.specs.Machine.{number_limit}
-use Rattle.escpos_till.specs.Tries.{end_of_tries, tries}
+use Rattle.std.proofs.Common.{ap, arith}
+use Rattle.escpos_till.specs.Tries.{end_of_tries}
 use Rattle.escpos_till.proofs.EntryLemmas.{ends_within, said_none}
 use Rattle.escpos_till.proofs.book.Book.said.Goals as goal
 

@@ -1,5 +1,5 @@
 -- The receipt at a place.
-use Rattle.std.proofs.Common.{◌≡◌, ◌<◌, ◌+◌, ◌∙◌, Some, ap, length, slice_get, sym, subst, refl, arith}
+use Rattle.std.proofs.Common.{◌<◌, ◌+◌, ◌∙◌, Some, ap, length, sym, subst, refl, arith}
 use Rattle.std.proofs.lemmas.Option.{slice_get_read}
 use Rattle.escpos_till.specs.Contents.{content_with}
 use Rattle.escpos_till.specs.Book.{StandsAt}

@@ -2,7 +2,6 @@
 use Rattle.std.proofs.Common.{◌≡◌, ◌∙◌, ap, sym, subst}
 use Rattle.std.specs.Prelude.{IfErr, OnOk}
 use Rattle.escpos_till.specs.declared.stage.Stage.TheVariants as stage
-use Rattle.escpos_till.specs.declared.store.StoreFault.{StoreFault}
 use Rattle.escpos_till.specs.Learning.{FailsToLearn, IfKeeping, Learned, LearnsAll}
 use Rattle.escpos_till.specs.Machine.{MachineView, at}
 use Rattle.escpos_till.proofs.LearningLemmas.{either_way}
