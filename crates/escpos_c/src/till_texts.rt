@@ -1,6 +1,6 @@
 //! The machine of a till from the lines of its entries.
 
-ghost use Rattle.std.specs.Prelude.{◌≡◌, ◌≢◌, ℕ, ◌+◌, ◌<◌, List, [], length, take, All, IfOk, IfErr, IsErrOf};
+ghost use Rattle.std.specs.Prelude.{◌≡◌, ◌≢◌, ◌↔◌, ℕ, ◌+◌, ◌<◌, List, [], length, take, All, IfOk, IfErr, IsErrOf, IsTrue};
 ghost use Rattle.escpos_till.specs.declared.entry.Entry.{Entry as EntryValue};
 ghost use Rattle.escpos_till.specs.Entries.{IsLedger};
 ghost use Rattle.escpos_c.specs.TillLines.{IsReal};
@@ -82,13 +82,24 @@ fn fault_place(alloc: Global, entries: &[Entry]) -> Result<usize, AllocError>
     let mut bad = entries.len();
     while bad - good > 1 {
         let middle = good + (bad - good) / 2;
-        match TillMachine::open(alloc, &entries[..middle]) {
-            Ok(_) => good = middle,
-            Err(NoMachine::Damaged) => bad = middle,
-            Err(NoMachine::Memory) => return Err(AllocError),
+        if are_ledger(alloc, &entries[..middle])? {
+            good = middle;
+        } else {
+            bad = middle;
         }
     }
     Ok(good)
+}
+
+// Whether these entries are a ledger.
+fn are_ledger(alloc: Global, entries: &[Entry]) -> Result<bool, AllocError>
+    ensures { IfOk result (λ is. IsTrue is ↔ IsLedger entries.now) }
+{
+    match TillMachine::open(alloc, entries) {
+        Ok(_) => Ok(true),
+        Err(NoMachine::Damaged) => Ok(false),
+        Err(NoMachine::Memory) => Err(AllocError),
+    }
 }
 
 /// Proof only: a text is read in one way, and the lines of a ledger's entries give them back and are never at fault.
