@@ -35,20 +35,24 @@ fn delivers(rt: &impl Abort, alloc: Global, till: &mut Till) -> bool {
     true
 }
 
+fn is_delivered_at_last(rt: &impl Abort, alloc: Global, till: &mut Till) {
+    for plain in TAKEN {
+        assert!(rt; happens_at_last(rt, alloc, till, plain));
+    }
+    if !delivers(rt, alloc, till) {
+        all_happen(
+            rt,
+            alloc,
+            till,
+            &[Plain::Crash, Plain::Start, Plain::Restart],
+        );
+        assert!(rt; delivers(rt, alloc, till));
+    }
+    stand(rt, till, &[ReceiptState::Recorded { place: 0 }]);
+}
+
 #[test]
 fn happenings_refused(rt: HostRuntime) {
     let mut till = till_at_last(&rt, rt.alloc());
-    for plain in TAKEN {
-        assert!(&rt; happens_at_last(&rt, rt.alloc(), &mut till, plain));
-    }
-    if !delivers(&rt, rt.alloc(), &mut till) {
-        all_happen(
-            &rt,
-            rt.alloc(),
-            &mut till,
-            &[Plain::Crash, Plain::Start, Plain::Restart],
-        );
-        assert!(&rt; delivers(&rt, rt.alloc(), &mut till));
-    }
-    stand(&rt, &till, &[ReceiptState::Recorded { place: 0 }]);
+    is_delivered_at_last(&rt, rt.alloc(), &mut till);
 }
