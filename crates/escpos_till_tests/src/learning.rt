@@ -1,6 +1,5 @@
 //! What a machine makes of entries that others have added to its ledger, and which entries they may add.
 
-use crate::support::calls::{asks, connected, deliver, hung_up, learned, next_mark, queue, states};
 use crate::support::tills::{bytes_at_last, key, machine_of, number, receipt};
 use escpos_host::{HostError, SendFault};
 use escpos_test_receipts::S;
@@ -24,15 +23,15 @@ fn cancelled(rt: &impl Abort, at: usize) -> Entry {
 // A machine that has taken S, and is to keep that it is tried.
 fn tries(rt: &impl Abort, alloc: Global) -> TillMachine {
     let mut machine = machine_of(rt, alloc, &[taken(rt, alloc)]);
-    assert!(rt; deliver(&mut machine, 1, None, 100, false) == Ok(()));
-    connected(&mut machine, true);
+    assert!(rt; machine.deliver(1, None, 100, false) == Ok(()));
+    machine.connected(true);
     keeps_try(rt, &machine, 2);
     machine
 }
 
 // It is to keep that receipt 1 is tried, and that this is the next mark number.
 fn keeps_try(rt: &impl Abort, machine: &TillMachine, wanted: u32) {
-    match asks(machine) {
+    match machine.asks() {
         Action::Append(Entry::Tried { number, next }) => {
             assert!(rt; number.get() == 1);
             assert!(rt; *next == wanted);
@@ -43,9 +42,9 @@ fn keeps_try(rt: &impl Abort, machine: &TillMachine, wanted: u32) {
 
 // It gives its link up, and tells this.
 fn ends(rt: &impl Abort, machine: &mut TillMachine, wanted: TillNote) {
-    assert!(rt; matches!(asks(machine), Action::HangUp));
-    hung_up(machine);
-    match asks(machine) {
+    assert!(rt; matches!(machine.asks(), Action::HangUp));
+    machine.hung_up();
+    match machine.asks() {
         Action::Tell(note) => assert!(rt; note == wanted),
         _ => panic!(rt; "nothing told"),
     }
@@ -62,17 +61,17 @@ fn a_try_has_other_numbers(rt: HostRuntime) {
         },
         taken(&rt, rt.alloc()),
     ];
-    assert!(&rt; learned(&mut machine, &others) == Ok(()));
+    assert!(&rt; machine.learned(&others) == Ok(()));
     keeps_try(&rt, &machine, 9);
-    assert!(&rt; states(&machine).len() == 2);
-    assert!(&rt; next_mark(&machine) == 7);
+    assert!(&rt; machine.states().len() == 2);
+    assert!(&rt; machine.next_mark() == 7);
 }
 
 // The receipt is cancelled: it isn't sent.
 #[test]
 fn a_try_is_cancelled(rt: HostRuntime) {
     let mut machine = tries(&rt, rt.alloc());
-    assert!(&rt; learned(&mut machine, &[cancelled(&rt, 1)]) == Ok(()));
+    assert!(&rt; machine.learned(&[cancelled(&rt, 1)]) == Ok(()));
     let told = TillNote::Cancelled {
         number: number(&rt, 1),
         tried: 0,
@@ -88,7 +87,7 @@ fn a_try_has_no_numbers_left(rt: HostRuntime) {
         next: 1_679_615,
         heard: 0,
     }];
-    assert!(&rt; learned(&mut machine, &others) == Ok(()));
+    assert!(&rt; machine.learned(&others) == Ok(()));
     let told = TillNote::Waiting {
         number: number(&rt, 1),
         why: SendFault::Refused(HostError::MarksUsedUp),
@@ -104,7 +103,7 @@ fn a_record_of_others_fails(rt: HostRuntime) {
         number: number(&rt, 1),
         heard: 0,
     }];
-    assert!(&rt; learned(&mut machine, &others) == Err(StoreFault::Failed));
+    assert!(&rt; machine.learned(&others) == Err(StoreFault::Failed));
     ends(&rt, &mut machine, TillNote::NotKept(StoreFault::Failed));
 }
 
@@ -113,13 +112,13 @@ fn a_record_of_others_fails(rt: HostRuntime) {
 fn only_a_delivery_learns(rt: HostRuntime) {
     let mut machine = machine_of(&rt, rt.alloc(), &[]);
     let others = [Entry::Raised { next: 7, heard: 0 }];
-    assert!(&rt; learned(&mut machine, &others) == Ok(()));
-    assert!(&rt; next_mark(&machine) == 0);
-    if let Err((_, _receipt)) = queue(&mut machine, receipt(&rt, rt.alloc(), S.0), None) {
+    assert!(&rt; machine.learned(&others) == Ok(()));
+    assert!(&rt; machine.next_mark() == 0);
+    if let Err((_, _receipt)) = machine.queue(receipt(&rt, rt.alloc(), S.0), None) {
         panic!(&rt; "not taken");
     }
-    assert!(&rt; learned(&mut machine, &others) == Err(StoreFault::Failed));
-    match asks(&machine) {
+    assert!(&rt; machine.learned(&others) == Err(StoreFault::Failed));
+    match machine.asks() {
         Action::Tell(note) => assert!(&rt; note == TillNote::NotKept(StoreFault::Failed)),
         _ => panic!(&rt; "nothing told"),
     }

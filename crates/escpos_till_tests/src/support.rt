@@ -2,5 +2,4 @@
 //!
 //! No test stands here. A test imports from here and from the crates that it tests, never from another test's file.
 
-pub mod calls;
 pub mod tills;

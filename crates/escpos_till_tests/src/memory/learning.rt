@@ -1,6 +1,5 @@
 //! What a machine learns of others, where memory is refused.
 
-use crate::support::calls::{asks, connected, deliver, learned, open};
 use crate::support::tills::{bytes_at_last, number};
 use escpos_till::{
     Action, Content, Entry, NoMachine, NotRenewed, StoreFault, TillMachine, TillRefusal, copies,
@@ -18,34 +17,34 @@ fn taken(rt: &impl Abort, alloc: Global) -> Entry {
 
 // A machine that is to keep that a receipt is tried. Where memory is refused, it is made again.
 fn tries_at_last(rt: &impl Abort, alloc: Global, entries: &[Entry]) -> TillMachine {
-    let mut machine = match open(alloc, entries) {
+    let mut machine = match TillMachine::open(alloc, entries) {
         Ok(machine) => machine,
         Err(why) => {
             assert!(rt; why == NoMachine::Memory);
-            match open(alloc, entries) {
+            match TillMachine::open(alloc, entries) {
                 Ok(machine) => machine,
                 Err(_) => panic!(rt; "no machine"),
             }
         }
     };
-    if let Err(why) = deliver(&mut machine, 1, None, 100, false) {
+    if let Err(why) = machine.deliver(1, None, 100, false) {
         assert!(rt; why == TillRefusal::Memory);
-        assert!(rt; deliver(&mut machine, 1, None, 100, false) == Ok(()));
+        assert!(rt; machine.deliver(1, None, 100, false) == Ok(()));
     }
-    connected(&mut machine, true);
+    machine.connected(true);
     machine
 }
 
 // It learns of these, and is to keep that the receipt is tried; or it has failed for want of memory.
 fn learns(rt: &impl Abort, machine: &mut TillMachine, others: &[Entry]) -> bool {
-    match learned(machine, others) {
+    match machine.learned(others) {
         Ok(()) => {
-            assert!(rt; matches!(asks(machine), Action::Append(Entry::Tried { next: 9, .. })));
+            assert!(rt; matches!(machine.asks(), Action::Append(Entry::Tried { next: 9, .. })));
             true
         }
         Err(why) => {
             assert!(rt; why == StoreFault::Memory);
-            assert!(rt; matches!(asks(machine), Action::HangUp));
+            assert!(rt; matches!(machine.asks(), Action::HangUp));
             false
         }
     }

@@ -1,8 +1,5 @@
 //! The calls of a till's machine, where memory is refused.
 
-use crate::support::calls::{
-    appended, asks, cancel, connected, deliver, hung_up, open, queue, raise, states, told,
-};
 use crate::support::tills::{bytes_at_last, key, number, receipt_at_last};
 use escpos_till::{
     Action, Content, Entry, NoMachine, ReceiptState, TillMachine, TillNote, TillRefusal,
@@ -12,11 +9,11 @@ use std::process::Abort;
 
 // A machine of these entries. Where memory is refused, it is opened again.
 fn opened_at_last(rt: &impl Abort, alloc: Global, entries: &[Entry]) -> TillMachine {
-    match open(alloc, entries) {
+    match TillMachine::open(alloc, entries) {
         Ok(machine) => machine,
         Err(why) => {
             assert!(rt; why == NoMachine::Memory);
-            match open(alloc, entries) {
+            match TillMachine::open(alloc, entries) {
                 Ok(machine) => machine,
                 Err(_) => panic!(rt; "no machine"),
             }
@@ -26,38 +23,38 @@ fn opened_at_last(rt: &impl Abort, alloc: Global, entries: &[Entry]) -> TillMach
 
 // S is taken.
 fn takes_at_last(rt: &impl Abort, alloc: Global, machine: &mut TillMachine) {
-    if let Err((why, receipt)) = queue(machine, receipt_at_last(rt, alloc), None) {
+    if let Err((why, receipt)) = machine.queue(receipt_at_last(rt, alloc), None) {
         assert!(rt; why == TillRefusal::Memory);
-        if let Err((_, _receipt)) = queue(machine, receipt, None) {
+        if let Err((_, _receipt)) = machine.queue(receipt, None) {
             panic!(rt; "not taken");
         }
     }
-    appended(machine, Ok(()));
-    told(machine);
-    assert!(rt; states(machine) == [ReceiptState::Waiting { tried: 0 }].as_slice());
+    machine.appended(Ok(()));
+    machine.told();
+    assert!(rt; machine.states() == [ReceiptState::Waiting { tried: 0 }].as_slice());
 }
 
 // It is to be delivered.
 fn delivers_at_last(rt: &impl Abort, machine: &mut TillMachine) {
-    if let Err(why) = deliver(machine, 1, None, 100, false) {
+    if let Err(why) = machine.deliver(1, None, 100, false) {
         assert!(rt; why == TillRefusal::Memory);
-        assert!(rt; deliver(machine, 1, None, 100, false) == Ok(()));
+        assert!(rt; machine.deliver(1, None, 100, false) == Ok(()));
     }
-    connected(machine, true);
-    appended(machine, Ok(()));
+    machine.connected(true);
+    machine.appended(Ok(()));
 }
 
 #[test]
 fn machine_refused(rt: HostRuntime) {
     let mut machine = opened_at_last(&rt, rt.alloc(), &[]);
-    assert!(&rt; raise(&mut machine, 3) == Ok(()));
-    appended(&mut machine, Ok(()));
-    told(&mut machine);
+    assert!(&rt; machine.raise(3) == Ok(()));
+    machine.appended(Ok(()));
+    machine.told();
     takes_at_last(&rt, rt.alloc(), &mut machine);
     delivers_at_last(&rt, &mut machine);
-    match asks(&machine) {
+    match machine.asks() {
         Action::Put => {}
-        Action::HangUp => hung_up(&mut machine),
+        Action::HangUp => machine.hung_up(),
         _ => panic!(&rt; "no link"),
     }
 }
@@ -67,10 +64,10 @@ fn machine_refused(rt: HostRuntime) {
 fn cancel_refused(rt: HostRuntime) {
     let mut machine = opened_at_last(&rt, rt.alloc(), &[]);
     takes_at_last(&rt, rt.alloc(), &mut machine);
-    assert!(&rt; cancel(&mut machine, number(&rt, 1)) == Ok(()));
-    appended(&mut machine, Ok(()));
-    told(&mut machine);
-    assert!(&rt; states(&machine) == [ReceiptState::Cancelled { tried: 0 }].as_slice());
+    assert!(&rt; machine.cancel(number(&rt, 1)) == Ok(()));
+    machine.appended(Ok(()));
+    machine.told();
+    assert!(&rt; machine.states() == [ReceiptState::Cancelled { tried: 0 }].as_slice());
 }
 
 // A receipt is taken with a key, and asked for again.
@@ -78,22 +75,22 @@ fn cancel_refused(rt: HostRuntime) {
 fn keyed_refused(rt: HostRuntime) {
     let mut machine = opened_at_last(&rt, rt.alloc(), &[]);
     let receipt = receipt_at_last(&rt, rt.alloc());
-    if let Err((why, receipt)) = queue(&mut machine, receipt, Some(key(&rt, b"sale-7"))) {
+    if let Err((why, receipt)) = machine.queue(receipt, Some(key(&rt, b"sale-7"))) {
         assert!(&rt; why == TillRefusal::Memory);
-        if let Err((_, _receipt)) = queue(&mut machine, receipt, Some(key(&rt, b"sale-7"))) {
+        if let Err((_, _receipt)) = machine.queue(receipt, Some(key(&rt, b"sale-7"))) {
             panic!(&rt; "not taken");
         }
     }
-    appended(&mut machine, Ok(()));
-    appended(&mut machine, Ok(()));
-    told(&mut machine);
+    machine.appended(Ok(()));
+    machine.appended(Ok(()));
+    machine.told();
     let receipt = receipt_at_last(&rt, rt.alloc());
-    assert!(&rt; queue(&mut machine, receipt, Some(key(&rt, b"sale-7"))).is_ok());
-    match asks(&machine) {
+    assert!(&rt; machine.queue(receipt, Some(key(&rt, b"sale-7"))).is_ok());
+    match machine.asks() {
         Action::Tell(note) => assert!(&rt; note == TillNote::Queued(number(&rt, 1))),
         _ => panic!(&rt; "nothing to tell"),
     }
-    assert!(&rt; states(&machine) == [ReceiptState::Waiting { tried: 0 }].as_slice());
+    assert!(&rt; machine.states() == [ReceiptState::Waiting { tried: 0 }].as_slice());
 }
 
 // The same entries, copied into a machine.
@@ -103,5 +100,5 @@ fn machine_of_entries_refused(rt: HostRuntime) {
     let key = key(&rt, b"sale-7");
     let entries = [Entry::Key { key }, Entry::Queued { content }];
     let machine = opened_at_last(&rt, rt.alloc(), &entries);
-    assert!(&rt; states(&machine) == [ReceiptState::Waiting { tried: 0 }].as_slice());
+    assert!(&rt; machine.states() == [ReceiptState::Waiting { tried: 0 }].as_slice());
 }

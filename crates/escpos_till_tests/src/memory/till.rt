@@ -1,6 +1,5 @@
 //! A till that is driven over a store in memory, where memory is refused, and the copies of what its ledger has.
 
-use crate::support::calls::{deliver, next_mark, open, queue, raise, states};
 use crate::support::tills::{
     ANSWERS_01, ANSWERS_23, DrivenTill, Line, bytes_at_last, drives, number, receipt_at_last,
 };
@@ -22,7 +21,7 @@ fn machine_of(rt: &impl Abort, alloc: Global, store: &mut MemoryStore) -> Option
             return None;
         }
     };
-    match open(alloc, &entries) {
+    match TillMachine::open(alloc, &entries) {
         Ok(machine) => Some(machine),
         Err(why) => {
             assert!(rt; why == NoMachine::Memory);
@@ -86,13 +85,13 @@ fn goes_on(rt: &impl Abort, alloc: Global, till: DrivenTill, came: Came) -> Driv
     }
     let DrivenTill { machine, around } = till;
     let mut machine = machine;
-    assert!(rt; raise(&mut machine, 9) == Err(TillRefusal::Failed));
+    assert!(rt; machine.raise(9) == Err(TillRefusal::Failed));
     let Surroundings { store, .. } = around;
     opened_at_last(rt, alloc, store)
 }
 
 fn queues(rt: &impl Abort, alloc: Global, till: &mut DrivenTill) -> Came {
-    match queue(&mut till.machine, receipt_at_last(rt, alloc), None) {
+    match till.machine.queue(receipt_at_last(rt, alloc), None) {
         Ok(()) => follows(rt, till, TillNote::Queued(number(rt, 1))),
         Err((why, _receipt)) => refused(rt, why),
     }
@@ -100,18 +99,18 @@ fn queues(rt: &impl Abort, alloc: Global, till: &mut DrivenTill) -> Came {
 
 // The first receipt is delivered, over a link on which the next two marks are answered.
 fn delivers(rt: &impl Abort, till: &mut DrivenTill) -> Came {
-    till.around.line.answers = match next_mark(&till.machine) {
+    till.around.line.answers = match till.machine.next_mark() {
         0 => ANSWERS_01,
         _ => ANSWERS_23,
     };
-    match deliver(&mut till.machine, 1, None, 100, false) {
+    match till.machine.deliver(1, None, 100, false) {
         Ok(()) => follows(rt, till, TillNote::Recorded(number(rt, 1))),
         Err(why) => refused(rt, why),
     }
 }
 
 fn raises(rt: &impl Abort, till: &mut DrivenTill) -> Came {
-    match raise(&mut till.machine, 5) {
+    match till.machine.raise(5) {
         Ok(()) => follows(rt, till, TillNote::Raised),
         Err(why) => refused(rt, why),
     }
@@ -154,8 +153,8 @@ fn raised_at_last(rt: &impl Abort, alloc: Global) -> DrivenTill {
 #[test]
 fn driven_till_refused(rt: HostRuntime) {
     let till = raised_at_last(&rt, rt.alloc());
-    assert!(&rt; states(&till.machine) == [ReceiptState::Recorded { place: 0 }].as_slice());
-    assert!(&rt; next_mark(&till.machine) == 5);
+    assert!(&rt; till.machine.states() == [ReceiptState::Recorded { place: 0 }].as_slice());
+    assert!(&rt; till.machine.next_mark() == 5);
 }
 
 // The same content once more. Where memory is refused, it is copied again.

@@ -1,6 +1,5 @@
 //! A till's machine with what surrounds it: a store in memory, and a line to a printer that does what it is told to.
 
-use crate::support::calls::{cancel, deliver, next_mark, open, queue, raise, states};
 use escpos_host::SendFault;
 use escpos_receipt::{JsonError, ReceiptOptions};
 use escpos_test_receipts::{A, S};
@@ -165,7 +164,7 @@ pub fn receipt_at_last(rt: &impl Abort, alloc: Global) -> ReceiptContent {
 
 // A machine of these entries.
 pub fn machine_of(rt: &impl Abort, alloc: Global, entries: &[Entry]) -> TillMachine {
-    match open(alloc, entries) {
+    match TillMachine::open(alloc, entries) {
         Ok(machine) => machine,
         Err(_) => panic!(rt; "no machine"),
     }
@@ -210,7 +209,7 @@ pub fn tells(rt: &impl Abort, till: &mut DrivenTill, note: TillNote) {
 
 // The receipt of a text is given to the machine.
 pub fn queues(rt: &impl Abort, alloc: Global, till: &mut DrivenTill, text: &[u8]) {
-    if let Err((_, _receipt)) = queue(&mut till.machine, receipt(rt, alloc, text), None) {
+    if let Err((_, _receipt)) = till.machine.queue(receipt(rt, alloc, text), None) {
         panic!(rt; "not taken");
     }
 }
@@ -226,8 +225,10 @@ pub fn queues_with(
     till: &mut DrivenTill,
     (text, with): (&[u8], &[u8]),
 ) {
-    let receipt = receipt(rt, alloc, text);
-    if let Err((_, _receipt)) = queue(&mut till.machine, receipt, Some(key(rt, with))) {
+    if let Err((_, _receipt)) = till
+        .machine
+        .queue(receipt(rt, alloc, text), Some(key(rt, with)))
+    {
         panic!(rt; "not taken");
     }
 }
@@ -263,7 +264,7 @@ pub fn starts(
         None => None,
     };
     till.around.line.answers = answers;
-    assert!(rt; deliver(&mut till.machine, openings, text.as_ref(), 100, false) == Ok(()));
+    assert!(rt; till.machine.deliver(openings, text.as_ref(), 100, false) == Ok(()));
 }
 
 // The first receipt that waits is delivered, as a copy if it was tried before. The printer answers this, and it is told what came of
@@ -285,23 +286,23 @@ pub fn has_sent(rt: &impl Abort, till: &DrivenTill, out: &[u8]) {
 }
 
 pub fn nothing_waits(rt: &impl Abort, till: &mut DrivenTill) {
-    assert!(rt; deliver(&mut till.machine, 1, None, 100, false) == Err(TillRefusal::NothingWaits));
+    assert!(rt; till.machine.deliver(1, None, 100, false) == Err(TillRefusal::NothingWaits));
 }
 
 // Its store has failed, and the machine refuses all.
 pub fn refuses_all(rt: &impl Abort, alloc: Global, till: &mut DrivenTill) {
-    match queue(&mut till.machine, receipt(rt, alloc, A.0), None) {
+    match till.machine.queue(receipt(rt, alloc, A.0), None) {
         Ok(()) => panic!(rt; "taken"),
         Err((why, _receipt)) => assert!(rt; why == TillRefusal::Failed),
     }
-    assert!(rt; raise(&mut till.machine, 9) == Err(TillRefusal::Failed));
-    assert!(rt; cancel(&mut till.machine, number(rt, 1)) == Err(TillRefusal::Failed));
-    assert!(rt; deliver(&mut till.machine, 1, None, 100, false) == Err(TillRefusal::Failed));
+    assert!(rt; till.machine.raise(9) == Err(TillRefusal::Failed));
+    assert!(rt; till.machine.cancel(number(rt, 1)) == Err(TillRefusal::Failed));
+    assert!(rt; till.machine.deliver(1, None, 100, false) == Err(TillRefusal::Failed));
     assert!(rt; drives(till, 1_000) == None);
 }
 
 // The receipts stand so, and the next mark has this number.
-pub fn stands(rt: &impl Abort, till: &DrivenTill, wanted: &[ReceiptState], next: u32) {
-    assert!(rt; states(&till.machine) == wanted);
-    assert!(rt; next_mark(&till.machine) == next);
+pub fn stands(rt: &impl Abort, till: &DrivenTill, states: &[ReceiptState], next: u32) {
+    assert!(rt; till.machine.states() == states);
+    assert!(rt; till.machine.next_mark() == next);
 }

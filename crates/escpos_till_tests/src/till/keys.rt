@@ -1,6 +1,5 @@
 //! The rows of keys: a receipt that comes with a key which the ledger has is the same one.
 
-use crate::support::calls::{cancel, raise};
 use crate::support::tills::{
     ANSWERS_01, DrivenTill, key, new_till, number, opened_again, queues_with, refuses_all, stands,
     starts, takes, takes_with, tells,
@@ -63,7 +62,7 @@ fn keeps_its_key(rt: &impl Abort, alloc: Global, till: &mut DrivenTill) {
     let first = number(rt, 1);
     takes_with(rt, alloc, till, (S.0, b"a"), 1);
     takes_with(rt, alloc, till, (S.0, b"b"), 2);
-    assert!(rt; cancel(&mut till.machine, first) == Ok(()));
+    assert!(rt; till.machine.cancel(first) == Ok(()));
     tells(
         rt,
         till,
@@ -91,7 +90,7 @@ fn busy(rt: HostRuntime) {
     let mut till = new_till(&rt, rt.alloc(), Failure::Never);
     takes_with(&rt, rt.alloc(), &mut till, (S.0, b"a"), 1);
     queues_with(&rt, rt.alloc(), &mut till, (S.0, b"a"));
-    assert!(&rt; raise(&mut till.machine, 1) == Err(TillRefusal::Busy));
+    assert!(&rt; till.machine.raise(1) == Err(TillRefusal::Busy));
     tells(&rt, &mut till, TillNote::Queued(number(&rt, 1)));
 }
 

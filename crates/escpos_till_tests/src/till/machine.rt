@@ -1,9 +1,5 @@
 //! The machine of a till, told by hand what came of what it asks for.
 
-use crate::support::calls::{
-    appended, asks, came, connected, deliver, hung_up, link_ended, next_mark, queue, raise, states,
-    take_out, told,
-};
 use crate::support::tills::{machine_of, number, receipt};
 use escpos_host::SendFault;
 use escpos_test_receipts::{S, SENT};
@@ -20,7 +16,7 @@ fn content(rt: &impl Abort, alloc: Global, text: &[u8]) -> Content {
 
 // It is to keep that a receipt is taken.
 fn queues(rt: &impl Abort, machine: &mut TillMachine, receipt: ReceiptContent) {
-    if let Err((_, _receipt)) = queue(machine, receipt, None) {
+    if let Err((_, _receipt)) = machine.queue(receipt, None) {
         panic!(rt; "not taken");
     }
 }
@@ -48,16 +44,16 @@ fn is_recorded(entry: &Entry, first: ReceiptNumber, mark: u32) -> bool {
 
 // It tells this, and is at rest.
 fn tells(rt: &impl Abort, machine: &mut TillMachine, wanted: TillNote) {
-    match asks(machine) {
+    match machine.asks() {
         Action::Tell(note) => assert!(rt; note == wanted),
         _ => panic!(rt; "nothing to tell"),
     }
-    told(machine);
+    machine.told();
     rests(rt, machine);
 }
 
 fn rests(rt: &impl Abort, machine: &TillMachine) {
-    match asks(machine) {
+    match machine.asks() {
         Action::Nothing => {}
         _ => panic!(rt; "something is asked for"),
     }
@@ -65,8 +61,8 @@ fn rests(rt: &impl Abort, machine: &TillMachine) {
 
 // It asks for the link to be given up, and it is.
 fn hangs_up(rt: &impl Abort, machine: &mut TillMachine) {
-    match asks(machine) {
-        Action::HangUp => hung_up(machine),
+    match machine.asks() {
+        Action::HangUp => machine.hung_up(),
         _ => panic!(rt; "no link to give up"),
     }
 }
@@ -74,11 +70,11 @@ fn hangs_up(rt: &impl Abort, machine: &mut TillMachine) {
 // It asks the printer to tell its condition unasked, then for these bytes to be put, and then waits.
 fn puts(rt: &impl Abort, machine: &mut TillMachine, wanted: &[u8]) {
     let mut room = [0; 64];
-    match asks(machine) {
+    match machine.asks() {
         Action::Put => {}
         _ => panic!(rt; "nothing to put"),
     }
-    let count = take_out(machine, &mut room);
+    let count = machine.take_out(&mut room);
     match &room[..count.min(64)] {
         [0x1D, b'a', 0x0E, others @ ..] => assert!(rt; others == wanted),
         _ => panic!(rt; "no request for automatic status"),
@@ -87,22 +83,22 @@ fn puts(rt: &impl Abort, machine: &mut TillMachine, wanted: &[u8]) {
 
 // It waits for so many bytes of answers, and hears these.
 fn hears(rt: &impl Abort, machine: &mut TillMachine, most: u32, bytes: &[u8]) {
-    match asks(machine) {
+    match machine.asks() {
         Action::Wait(left) => assert!(rt; left == most),
         _ => panic!(rt; "no wait"),
     }
-    assert!(rt; came(machine, bytes) == bytes.len());
+    assert!(rt; machine.came(bytes) == bytes.len());
 }
 
 // A receipt is taken, and has this number.
 fn takes(rt: &impl Abort, alloc: Global, machine: &mut TillMachine, at: usize) {
     queues(rt, machine, receipt(rt, alloc, S.0));
-    assert!(rt; raise(machine, 9) == Err(TillRefusal::Busy));
-    match asks(machine) {
+    assert!(rt; machine.raise(9) == Err(TillRefusal::Busy));
+    match machine.asks() {
         Action::Append(entry) => assert!(rt; is_queued(entry, S.0)),
         _ => panic!(rt; "nothing to keep"),
     }
-    appended(machine, Ok(()));
+    machine.appended(Ok(()));
     tells(rt, machine, TillNote::Queued(number(rt, at)));
 }
 
@@ -112,17 +108,17 @@ fn tries(rt: &impl Abort, machine: &mut TillMachine, copy: Option<&[u8]>, next: 
         Some(text) => Some(CopyText::new(text).expect(rt, "a text")),
         None => None,
     };
-    assert!(rt; deliver(machine, 1, text.as_ref(), 100, false) == Ok(()));
-    match asks(machine) {
-        Action::Connect => connected(machine, true),
+    assert!(rt; machine.deliver(1, text.as_ref(), 100, false) == Ok(()));
+    match machine.asks() {
+        Action::Connect => machine.connected(true),
         _ => panic!(rt; "no link wanted"),
     }
     let first = number(rt, 1);
-    match asks(machine) {
+    match machine.asks() {
         Action::Append(entry) => assert!(rt; is_tried(entry, first, next)),
         _ => panic!(rt; "nothing to keep"),
     }
-    appended(machine, Ok(()));
+    machine.appended(Ok(()));
 }
 
 // The receipt is put, its closing mark answered, and it is recorded. No mark below this number can be answered any more.
@@ -137,11 +133,11 @@ fn records(rt: &impl Abort, machine: &mut TillMachine, heard: u32) {
 // The first receipt is printed: that is kept with what is heard, the link given up, and the owner told.
 fn keeps(rt: &impl Abort, machine: &mut TillMachine, heard: u32) {
     let first = number(rt, 1);
-    match asks(machine) {
+    match machine.asks() {
         Action::Append(entry) => assert!(rt; is_recorded(entry, first, heard)),
         _ => panic!(rt; "nothing to keep"),
     }
-    appended(machine, Ok(()));
+    machine.appended(Ok(()));
     hangs_up(rt, machine);
     tells(rt, machine, TillNote::Recorded(first));
 }
@@ -149,13 +145,13 @@ fn keeps(rt: &impl Abort, machine: &mut TillMachine, heard: u32) {
 #[test]
 fn machine_records(rt: HostRuntime) {
     let mut machine = machine_of(&rt, rt.alloc(), &[]);
-    assert!(&rt; deliver(&mut machine, 1, None, 100, false) == Err(TillRefusal::NothingWaits));
+    assert!(&rt; machine.deliver(1, None, 100, false) == Err(TillRefusal::NothingWaits));
     takes(&rt, rt.alloc(), &mut machine, 1);
     tries(&rt, &mut machine, None, 2);
     records(&rt, &mut machine, 2);
-    assert!(&rt; states(&machine) == [ReceiptState::Recorded { place: 0 }].as_slice());
-    assert!(&rt; next_mark(&machine) == 2);
-    assert!(&rt; deliver(&mut machine, 1, None, 100, false) == Err(TillRefusal::NothingWaits));
+    assert!(&rt; machine.states() == [ReceiptState::Recorded { place: 0 }].as_slice());
+    assert!(&rt; machine.next_mark() == 2);
+    assert!(&rt; machine.deliver(1, None, 100, false) == Err(TillRefusal::NothingWaits));
 }
 
 // There is no link; the link ends; too much is said: the receipt waits, and is tried again as a copy.
@@ -164,12 +160,12 @@ fn machine_gives_up(rt: HostRuntime) {
     let mut machine = machine_of(&rt, rt.alloc(), &[]);
     takes(&rt, rt.alloc(), &mut machine, 1);
     let first = number(&rt, 1);
-    assert!(&rt; deliver(&mut machine, 1, None, 100, false) == Ok(()));
-    connected(&mut machine, false);
+    assert!(&rt; machine.deliver(1, None, 100, false) == Ok(()));
+    machine.connected(false);
     tells(&rt, &mut machine, TillNote::NoLink(first));
     tries(&rt, &mut machine, None, 2);
     puts(&rt, &mut machine, &SENT[..11]);
-    link_ended(&mut machine, SendFault::Ended);
+    machine.link_ended(SendFault::Ended);
     waits(&rt, &mut machine, SendFault::Ended);
     tries(&rt, &mut machine, Some(b"COPY"), 4);
     puts(&rt, &mut machine, b"\x1D(H\x06\x00000002");
@@ -177,7 +173,7 @@ fn machine_gives_up(rt: HostRuntime) {
         hears(&rt, &mut machine, 100u32.saturating_sub(index), b"\x12");
     }
     waits(&rt, &mut machine, SendFault::TooLong);
-    assert!(&rt; states(&machine) == [ReceiptState::Waiting { tried: 2 }].as_slice());
+    assert!(&rt; machine.states() == [ReceiptState::Waiting { tried: 2 }].as_slice());
 }
 
 // The receipt is put, and the link ends before its closing mark is answered.
@@ -185,7 +181,7 @@ fn loses_the_answer(rt: &impl Abort, machine: &mut TillMachine) {
     puts(rt, machine, &SENT[..11]);
     hears(rt, machine, 100, b"\x37\x220000\x00");
     puts(rt, machine, &SENT[11..]);
-    link_ended(machine, SendFault::Ended);
+    machine.link_ended(SendFault::Ended);
     waits(rt, machine, SendFault::Ended);
 }
 
@@ -205,18 +201,18 @@ fn machine_hears_late(rt: HostRuntime) {
     hears(&rt, &mut machine, 79, b"\x14\x00\x00\x0F");
     hears(&rt, &mut machine, 75, b"\x37\x220001\x00");
     keeps(&rt, &mut machine, 2);
-    assert!(&rt; states(&machine) == [ReceiptState::Recorded { place: 0 }].as_slice());
-    assert!(&rt; next_mark(&machine) == 4);
+    assert!(&rt; machine.states() == [ReceiptState::Recorded { place: 0 }].as_slice());
+    assert!(&rt; machine.next_mark() == 4);
 }
 
 // It tells that the printer pauses for this reason.
 fn tells_pause(rt: &impl Abort, machine: &mut TillMachine, why: Pause) {
     let number = number(rt, 1);
-    match asks(machine) {
+    match machine.asks() {
         Action::Tell(note) => assert!(rt; note == TillNote::Paused { number, why }),
         _ => panic!(rt; "nothing to tell"),
     }
-    told(machine);
+    machine.told();
     assert!(rt; machine.is_paused());
 }
 
@@ -242,7 +238,7 @@ fn machine_tells_pauses(rt: HostRuntime) {
     hears(&rt, &mut machine, 76, b"\x18\x00\x0F\x00");
     tells_pause(&rt, &mut machine, Pause::PaperEnded);
     hears(&rt, &mut machine, 72, b"\x10\x00\x00\x00");
-    link_ended(&mut machine, SendFault::TimedOut);
+    machine.link_ended(SendFault::TimedOut);
     waits(&rt, &mut machine, SendFault::TimedOut);
     assert!(&rt; !machine.is_paused());
 }
@@ -259,10 +255,10 @@ fn machine_is_left_paused(rt: HostRuntime) {
     hears(&rt, &mut machine, 93, b"\x18\x00\x0C\x00");
     let (number, why) = (number(&rt, 1), Pause::PaperEnded);
     tells_pause(&rt, &mut machine, why);
-    link_ended(&mut machine, SendFault::TimedOut);
+    machine.link_ended(SendFault::TimedOut);
     hangs_up(&rt, &mut machine);
     tells(&rt, &mut machine, TillNote::StillPaused { number, why });
-    assert!(&rt; states(&machine) == [ReceiptState::Waiting { tried: 1 }].as_slice());
+    assert!(&rt; machine.states() == [ReceiptState::Waiting { tried: 1 }].as_slice());
 }
 
 // The second receipt is tried. A late answer to the closing mark of the first says nothing of it.
@@ -286,13 +282,13 @@ fn machine_hears_of_another(rt: HostRuntime) {
         },
     ];
     let mut machine = machine_of(&rt, rt.alloc(), &entries);
-    assert!(&rt; deliver(&mut machine, 1, None, 100, false) == Ok(()));
-    connected(&mut machine, true);
-    match asks(&machine) {
+    assert!(&rt; machine.deliver(1, None, 100, false) == Ok(()));
+    machine.connected(true);
+    match machine.asks() {
         Action::Append(entry) => assert!(&rt; is_tried(entry, second, 4)),
         _ => panic!(&rt; "nothing to keep"),
     }
-    appended(&mut machine, Ok(()));
+    machine.appended(Ok(()));
     puts(&rt, &mut machine, b"\x1D(H\x06\x00000002");
     hears(&rt, &mut machine, 100, b"\x37\x220001\x00");
     hears(&rt, &mut machine, 93, b"\x37\x220002\x00");
@@ -310,12 +306,12 @@ fn waits(rt: &impl Abort, machine: &mut TillMachine, why: SendFault) {
 #[test]
 fn machine_fails(rt: HostRuntime) {
     let mut machine = machine_of(&rt, rt.alloc(), &[]);
-    assert!(&rt; raise(&mut machine, 7) == Ok(()));
-    appended(&mut machine, Err(StoreFault::Failed));
+    assert!(&rt; machine.raise(7) == Ok(()));
+    machine.appended(Err(StoreFault::Failed));
     tells(&rt, &mut machine, TillNote::NotKept(StoreFault::Failed));
-    assert!(&rt; raise(&mut machine, 9) == Err(TillRefusal::Failed));
-    assert!(&rt; deliver(&mut machine, 1, None, 100, false) == Err(TillRefusal::Failed));
-    assert!(&rt; next_mark(&machine) == 0);
+    assert!(&rt; machine.raise(9) == Err(TillRefusal::Failed));
+    assert!(&rt; machine.deliver(1, None, 100, false) == Err(TillRefusal::Failed));
+    assert!(&rt; machine.next_mark() == 0);
 }
 
 // A machine goes on from the entries that are left.
@@ -333,20 +329,20 @@ fn machine_goes_on(rt: HostRuntime) {
         },
     ];
     let mut machine = machine_of(&rt, rt.alloc(), &entries);
-    assert!(&rt; states(&machine) == [ReceiptState::Waiting { tried: 1 }].as_slice());
+    assert!(&rt; machine.states() == [ReceiptState::Waiting { tried: 1 }].as_slice());
     let used_up = TillRefusal::MarksUsedUp { number: first };
-    assert!(&rt; deliver(&mut machine, 1, None, 100, false) == Err(used_up));
+    assert!(&rt; machine.deliver(1, None, 100, false) == Err(used_up));
     let reused = TillRefusal::MarkReused { next: 1_679_615 };
-    assert!(&rt; raise(&mut machine, 5) == Err(reused));
+    assert!(&rt; machine.raise(5) == Err(reused));
 }
 
 // The next number is raised to the last one that leaves enough for a try, and no higher.
 fn raises_no_higher(rt: &impl Abort, machine: &mut TillMachine, last: u32) {
     let too_high = Err(TillRefusal::MarkTooHigh { last });
-    assert!(rt; raise(machine, last.saturating_add(1)) == too_high);
-    assert!(rt; raise(machine, u32::MAX) == too_high);
-    assert!(rt; raise(machine, last) == Ok(()));
-    appended(machine, Ok(()));
+    assert!(rt; machine.raise(last.saturating_add(1)) == too_high);
+    assert!(rt; machine.raise(u32::MAX) == too_high);
+    assert!(rt; machine.raise(last) == Ok(()));
+    machine.appended(Ok(()));
     tells(rt, machine, TillNote::Raised);
 }
 
@@ -354,7 +350,7 @@ fn raises_no_higher(rt: &impl Abort, machine: &mut TillMachine, last: u32) {
 fn has_numbers_for_one(rt: &impl Abort, machine: &mut TillMachine, last: u32) {
     let number = number(rt, 1);
     let used_up = TillRefusal::MarksUsedUp { number };
-    assert!(rt; deliver(machine, 2, None, 100, false) == Err(used_up));
+    assert!(rt; machine.deliver(2, None, 100, false) == Err(used_up));
     tries(rt, machine, None, last.saturating_add(2));
 }
 
@@ -396,7 +392,7 @@ fn machine_goes_round(rt: HostRuntime) {
     takes(&rt, rt.alloc(), &mut machine, 1);
     tries(&rt, &mut machine, None, 3_359_234);
     records(&rt, &mut machine, 3_359_234);
-    assert!(&rt; next_mark(&machine) == 3_359_234);
+    assert!(&rt; machine.next_mark() == 3_359_234);
 }
 
 // A receipt is tried with the last id; ids come round in its next try, and a late answer to the first one's closing mark is known by its id.
@@ -412,7 +408,7 @@ fn machine_hears_late_where_ids_come_round(rt: HostRuntime) {
     puts(&rt, &mut machine, b"\x1D(H\x06\x0000ZZZY");
     hears(&rt, &mut machine, 100, b"\x37\x22ZZZY\x00");
     puts(&rt, &mut machine, b"\x1B@Hi\n\x1D(H\x06\x0000ZZZZ");
-    link_ended(&mut machine, SendFault::Ended);
+    machine.link_ended(SendFault::Ended);
     waits(&rt, &mut machine, SendFault::Ended);
     tries(&rt, &mut machine, None, 1_679_618);
     puts(&rt, &mut machine, &SENT[..11]);
@@ -439,10 +435,10 @@ fn machine_puts_no_id_that_is_out(rt: HostRuntime) {
     ];
     let mut machine = machine_of(&rt, rt.alloc(), &entries);
     let used_up = Err(TillRefusal::MarksUsedUp { number: first });
-    assert!(&rt; deliver(&mut machine, 1, None, 100, false) == used_up);
+    assert!(&rt; machine.deliver(1, None, 100, false) == used_up);
     let mut machine = machine_of(&rt, rt.alloc(), &entries);
     let too_high = Err(TillRefusal::MarkTooHigh { last: 1_679_614 });
-    assert!(&rt; raise(&mut machine, 1_679_616) == too_high);
+    assert!(&rt; machine.raise(1_679_616) == too_high);
 }
 
 // Numbers below the last are all taken: each number is raised to, and a receipt is tried with it.
@@ -457,8 +453,8 @@ fn machine_takes_each_number(rt: HostRuntime) {
                 heard: 0,
             }],
         );
-        assert!(&rt; raise(&mut machine, first) == Ok(()));
-        appended(&mut machine, Ok(()));
+        assert!(&rt; machine.raise(first) == Ok(()));
+        machine.appended(Ok(()));
         tells(&rt, &mut machine, TillNote::Raised);
         takes(&rt, rt.alloc(), &mut machine, 1);
         tries(&rt, &mut machine, None, first.saturating_add(2));
@@ -472,10 +468,10 @@ fn machine_takes_many(rt: HostRuntime) {
     for at in 1..=300usize {
         takes(&rt, rt.alloc(), &mut machine, at);
     }
-    assert!(&rt; states(&machine).len() == 300);
+    assert!(&rt; machine.states().len() == 300);
     tries(&rt, &mut machine, None, 2);
     records(&rt, &mut machine, 2);
-    match states(&machine) {
+    match machine.states() {
         [first, second, ..] => {
             assert!(&rt; *first == ReceiptState::Recorded { place: 0 });
             assert!(&rt; *second == ReceiptState::Waiting { tried: 0 });
@@ -489,20 +485,20 @@ fn machine_takes_many(rt: HostRuntime) {
 fn machine_puts_three_openings(rt: HostRuntime) {
     let mut machine = machine_of(&rt, rt.alloc(), &[Entry::Raised { next: 7, heard: 0 }]);
     takes(&rt, rt.alloc(), &mut machine, 1);
-    assert!(&rt; deliver(&mut machine, 3, None, 100, false) == Ok(()));
-    connected(&mut machine, true);
-    match asks(&machine) {
+    assert!(&rt; machine.deliver(3, None, 100, false) == Ok(()));
+    machine.connected(true);
+    match machine.asks() {
         Action::Append(entry) => assert!(&rt; is_tried(entry, number(&rt, 1), 11)),
         _ => panic!(&rt; "nothing to keep"),
     }
-    appended(&mut machine, Ok(()));
+    machine.appended(Ok(()));
     puts(
         &rt,
         &mut machine,
         b"\x1D(H\x06\x00000007\x1D(H\x06\x00000008\x1D(H\x06\x00000009",
     );
     hears(&rt, &mut machine, 100, b"\x37\x220008\x00");
-    match asks(&machine) {
+    match machine.asks() {
         Action::Put => {}
         _ => panic!(&rt; "nothing to put"),
     }

@@ -1,6 +1,5 @@
 //! The rows of a ledger that goes on from an older one.
 
-use crate::support::calls::{cancel, next_mark, open, states};
 use crate::support::tills::{key, number};
 use escpos_test_receipts::{A, S};
 use escpos_till::{Content, Entry, NotRenewed, ReceiptState, TillMachine, TillRefusal, renewed};
@@ -99,24 +98,24 @@ fn what_waits_is_carried_over(rt: HostRuntime) {
 fn stands_as_before(rt: &impl Abort, machine: &mut TillMachine) {
     assert!(rt; machine.earlier() == 2);
     assert!(rt;
-        states(machine)
+        machine.states()
             == [
                 ReceiptState::Waiting { tried: 2 },
                 ReceiptState::Waiting { tried: 0 }
             ]
             .as_slice()
     );
-    assert!(rt; next_mark(machine) == 9);
-    let refused = cancel(machine, number(rt, 2));
+    assert!(rt; machine.next_mark() == 9);
+    let refused = machine.cancel(number(rt, 2));
     assert!(rt; refused == Err(TillRefusal::Earlier(number(rt, 2))));
-    let none = cancel(machine, number(rt, 5));
+    let none = machine.cancel(number(rt, 5));
     assert!(rt; none == Err(TillRefusal::NotTaken(number(rt, 5))));
 }
 
 #[test]
 fn numbers_go_on(rt: HostRuntime) {
     let new = newer(&rt, rt.alloc());
-    let mut machine = open(rt.alloc(), &new).expect(&rt, "a machine");
+    let mut machine = TillMachine::open(rt.alloc(), &new).expect(&rt, "a machine");
     stands_as_before(&rt, &mut machine);
 }
 

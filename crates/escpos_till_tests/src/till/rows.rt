@@ -2,7 +2,6 @@
 //!
 //! A test makes the till and lends it to checks.
 
-use crate::support::calls::{cancel, deliver, open, raise};
 use crate::support::tills::{
     ANSWERS_01, ANSWERS_23, Answers, DrivenTill, drives, has_sent, key, new_till, nothing_waits,
     number, opened_again, queues, refuses_all, stands, starts, takes, tells,
@@ -86,16 +85,16 @@ fn two_receipts(rt: HostRuntime) {
 
 fn cancels(rt: &impl Abort, till: &mut DrivenTill, at: usize, tried: usize) {
     let number = number(rt, at);
-    assert!(rt; cancel(&mut till.machine, number) == Ok(()));
+    assert!(rt; till.machine.cancel(number) == Ok(()));
     tells(rt, till, TillNote::Cancelled { number, tried });
 }
 
 // What waits no more isn't cancelled, and neither is what was never taken.
 fn cancels_none(rt: &impl Abort, till: &mut DrivenTill, recorded: usize, cancelled: usize) {
     let (recorded, cancelled, none) = (number(rt, recorded), number(rt, cancelled), number(rt, 4));
-    assert!(rt; cancel(&mut till.machine, recorded) == Err(TillRefusal::Recorded(recorded)));
-    assert!(rt; cancel(&mut till.machine, cancelled) == Err(TillRefusal::Cancelled(cancelled)));
-    assert!(rt; cancel(&mut till.machine, none) == Err(TillRefusal::NotTaken(none)));
+    assert!(rt; till.machine.cancel(recorded) == Err(TillRefusal::Recorded(recorded)));
+    assert!(rt; till.machine.cancel(cancelled) == Err(TillRefusal::Cancelled(cancelled)));
+    assert!(rt; till.machine.cancel(none) == Err(TillRefusal::NotTaken(none)));
 }
 
 // Of three receipts the first is tried and cancelled, the second is delivered next, and the third is cancelled before it was tried.
@@ -108,7 +107,7 @@ fn cancels_two(rt: &impl Abort, alloc: Global, till: &mut DrivenTill) {
     cancels(rt, till, 3, 0);
     stands(rt, till, &[DROPPED, UNTRIED, GONE], 2);
     tries(rt, till, 1, ANSWERS_23);
-    assert!(rt; cancel(&mut till.machine, number(rt, 2)) == Err(TillRefusal::Busy));
+    assert!(rt; till.machine.cancel(number(rt, 2)) == Err(TillRefusal::Busy));
     tells(rt, till, TillNote::Recorded(number(rt, 2)));
     stands(rt, till, &[DROPPED, FIRST, GONE], 4);
     cancels_none(rt, till, 2, 1);
@@ -136,7 +135,7 @@ fn cancelled_or_not(rt: HostRuntime) {
     for (failure, state) in kept {
         let mut till = new_till(&rt, rt.alloc(), failure);
         takes(&rt, rt.alloc(), &mut till, S.0, 1);
-        assert!(&rt; cancel(&mut till.machine, number(&rt, 1)) == Ok(()));
+        assert!(&rt; till.machine.cancel(number(&rt, 1)) == Ok(()));
         tells(&rt, &mut till, TillNote::NotKept(StoreFault::Failed));
         refuses_all(&rt, rt.alloc(), &mut till);
         let again = opened_again(&rt, rt.alloc(), till);
@@ -145,7 +144,7 @@ fn cancelled_or_not(rt: HostRuntime) {
 }
 
 fn raises(rt: &impl Abort, till: &mut DrivenTill, first: u32) {
-    assert!(rt; raise(&mut till.machine, first) == Ok(()));
+    assert!(rt; till.machine.raise(first) == Ok(()));
     tells(rt, till, TillNote::Raised);
 }
 
@@ -153,16 +152,16 @@ fn raises(rt: &impl Abort, till: &mut DrivenTill, first: u32) {
 fn raises_to_the_last(rt: &impl Abort, alloc: Global, till: &mut DrivenTill) {
     takes(rt, alloc, till, S.0, 1);
     raises(rt, till, 7);
-    assert!(rt; raise(&mut till.machine, 6) == Err(TillRefusal::MarkReused { next: 7 }));
+    assert!(rt; till.machine.raise(6) == Err(TillRefusal::MarkReused { next: 7 }));
     raises(rt, till, 7);
     tries_in_vain(rt, till, 1, (1, b"0007"));
     stands(rt, till, &[ONCE], 9);
     raises(rt, till, 1_679_614);
     let number = number(rt, 1);
     let used_up = Err(TillRefusal::MarksUsedUp { number });
-    assert!(rt; deliver(&mut till.machine, 2, None, 100, false) == used_up);
+    assert!(rt; till.machine.deliver(2, None, 100, false) == used_up);
     tries_in_vain(rt, till, 1, (1, b"ZZZY"));
-    assert!(rt; deliver(&mut till.machine, 1, None, 100, false) == used_up);
+    assert!(rt; till.machine.deliver(1, None, 100, false) == used_up);
     assert!(rt; drives(till, 1_000) == None);
     assert!(rt; till.around.line.hang_ups == 2);
     stands(rt, till, &[TWICE], 1_679_616);
@@ -335,7 +334,7 @@ fn entry(rt: &impl Abort, alloc: Global, plain: Plain) -> Entry {
 
 // Why there is no machine of these entries, if there is none.
 fn refusal(alloc: Global, entries: &[Entry]) -> Option<NoMachine> {
-    match open(alloc, entries) {
+    match TillMachine::open(alloc, entries) {
         Ok(_) => None,
         Err(why) => Some(why),
     }
