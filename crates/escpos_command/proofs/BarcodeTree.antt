@@ -10,8 +10,8 @@ use Rattle.escpos_command.specs.declared.bars.Form.TheVariants.{A, B}
 use Rattle.escpos_command.specs.declared.bars.Symbology.{Symbology}
 use Rattle.escpos_command.specs.declared.bars.Symbology.TheVariants.{UpcA, Ean13, Ean8, Code39, Itf, Codabar, Code128}
 use Rattle.escpos_command.specs.Barcodes.{barcode, barcode_mode, is_barcode, is_content, has_form, has_length, allows, all_from, is_digit, is_code39, is_codabar, is_codabar_end, is_code_set}
-use Rattle.escpos_command.specs.CommandTable.{Spells, row}
-use Rattle.escpos_command.specs.Tree.{leaf, dead, walk, passing, branch, none, plain_byte, plain_content, codabar_content, content_of, form_b, barcodes, grammar}
+use Rattle.escpos_command.specs.CommandTable.{Spells, sent_length, sent_suffix}
+use Rattle.escpos_command.specs.Tree.{leaf, dead, node, walk, passing, branch, none, plain_byte, plain_content, codabar_content, content_of, form_b, barcodes}
 use Rattle.escpos_command.proofs.Walks.{Good}
 use Rattle.escpos_command.proofs.Combinators.{good_passing, good_branch, good_counted, good_closed, good_stopped, walk-counted, walk-closed, walk-stopped, live_counted, live_stopped, all_from_all, and_left, and_right, both, at_row}
 
@@ -231,7 +231,11 @@ form_b_there Itf = refl
 form_b_there Codabar = refl
 form_b_there Code128 = refl
 
-pub leads_barcode : (f : Form) (s : Symbology) (xs : List ℕ) → is_barcode (barcode f s xs) ≡ true → walk grammar (row (kind.Bars (barcode f s xs))) ≡ leaf (kind.Bars (barcode f s xs))
+-- The bytes of a barcode after GS k.
+abbrev pub after_k : Form → Symbology → List ℕ → List ℕ
+after_k f s xs = (barcode_mode f s ∷ sent_length f (length xs)) ++ xs ++ sent_suffix f
+
+pub leads_barcode : (f : Form) (s : Symbology) (xs : List ℕ) → is_barcode (barcode f s xs) ≡ true → walk (node (branch barcodes none)) (after_k f s xs) ≡ leaf (kind.Bars (barcode f s xs))
 leads_barcode A s xs h = leads_form_a s xs (and_left (has_form A s) (is_content s xs) h) (and_right (has_form A s) (is_content s xs) h)
 leads_barcode B s xs h = ap (λ t. walk t (length xs ∷ (xs ++ []))) (form_b_there s) ∙ leads_form_b s xs h
 

@@ -1,5 +1,5 @@
 -- Where the commands that the first profile lacked part from those that it had.
-use Rattle.std.proofs.Common.{◌≡◌, ◌<◌, ◌≤◌, zero, suc, ℕ, ◌+◌, ◌*◌, ◌/◌, ◌%◌, List, [], ◌∷◌, ◌++◌, length, refl, ◌∙◌, ap, append-nil, arith, true, false}
+use Rattle.std.proofs.Common.{◌≡◌, ◌<◌, ◌≤◌, zero, suc, ℕ, ◌+◌, ◌*◌, ◌/◌, ◌%◌, List, [], ◌∷◌, ◌++◌, length, refl, sym, ◌∙◌, ap, append-nil, arith, true, false}
 use Rattle.std.specs.Prelude.{nat_le}
 use Rattle.std.specs.List.{list_all}
 use Rattle.std.proofs.lemmas.Bool.Decides.{nat_tests}
@@ -13,9 +13,11 @@ use Rattle.escpos_command.specs.Profiles.{ViableIn}
 use Rattle.escpos_command.specs.Rasters.{picture, is_width, is_height}
 use Rattle.escpos_command.specs.SecondProfile.{in_second_profile}
 use Rattle.escpos_command.specs.Tree.{leaf, walk, one, passing, these, grammar, after_scale, after_width, after_low, dots_tree}
-use Rattle.escpos_command.proofs.Profiles.{Parts, AllPart, chosen, counted_below, same_leaf, one_below, none_below}
+use Rattle.escpos_command.specs.Tree as tree
+use Rattle.escpos_command.proofs.Profiles.{Parts, AllPart, chosen, counted_below, same_leaf, one_below, none_below, form_below}
 use Rattle.escpos_command.proofs.RasterTree.{in_range, width_low, width_high, low_byte, height_bytes, spelled}
 use Rattle.escpos_command.proofs.SecondProfile.{Earlier, after_escape, later_parts}
+use Rattle.escpos_command.proofs.TableTree.{form}
 
 -- ## ESC p
 
@@ -27,16 +29,20 @@ pulse_on : (m : ℕ) (w : List ℕ) (c : Command) → walk (passing is_byte (λ 
 pulse_on m [] c e = absurd cc
 pulse_on m (on ∷ w) c e = pulse_off m on w c (chosen (is_byte on) (one is_byte (λ off. kind.Pulse (m, on, off))) w c e)
 
-pulse_below : (w : List ℕ) (c : Command) → walk grammar (ESC ∷ 0x70 ∷ w) ≡ leaf c → in_first_profile c ≡ false
+pulse_below : (w : List ℕ) (c : Command) → walk tree.pulse w ≡ leaf c → in_first_profile c ≡ false
 pulse_below [] c e = absurd cc
 pulse_below (m ∷ w) c e = pulse_on m w c (chosen (is_one_of_two m) (passing is_byte (λ on. one is_byte (λ off. kind.Pulse (m, on, off)))) w c e)
+
+no_pulse : (w : List ℕ) (c : Command) → walk grammar (ESC ∷ 0x70 ∷ w) ≡ leaf c → in_first_profile c ≡ false
+no_pulse = form_below in_first_profile (ESC ∷ 0x70 ∷ []) refl pulse_below
 
 -- ## Rasters of too many rows
 
 raster_below : (scale width low high : ℕ) (w : List ℕ) (c : Command) → walk grammar (GS ∷ 0x76 ∷ 0x30 ∷ scale ∷ width ∷ 0x00 ∷ low ∷ high ∷ w) ≡ leaf c
     → (xs : List ℕ) × (c ≡ kind.Raster (picture scale width (low + 256 * high) xs))
 raster_below scale width low high w c e =
-    let a = chosen (is_one_of_four scale) (after_scale scale) (width ∷ 0x00 ∷ low ∷ high ∷ w) c e in
+    let begun = sym (form (GS ∷ 0x76 ∷ []) (0x30 ∷ scale ∷ width ∷ 0x00 ∷ low ∷ high ∷ w) refl) ∙ e in
+    let a = chosen (is_one_of_four scale) (after_scale scale) (width ∷ 0x00 ∷ low ∷ high ∷ w) c begun in
     let b = chosen (is_width width) (these (0x00 ∷ []) (after_width scale width)) (0x00 ∷ low ∷ high ∷ w) c a in
     let d = chosen (is_byte low) (after_low scale width low) (high ∷ w) c b in
     let f = chosen (is_height (low + 256 * high)) (dots_tree scale width (low + 256 * high) (width * (low + 256 * high)) []) w c d in
@@ -126,11 +132,12 @@ lacks (kind.Raster r) h = absurd cc
 lacks c h = h
 
 first : Earlier in_first_profile IsNew
-first = record { init = refl; bar_width = refl; mark = refl; lacks = lacks; new = λ rest b h. later h }
+first = record { init = refl; cut = refl; mark = refl; lacks = lacks; new = λ rest b h. later h }
 
 pub first_parts : AllPart in_first_profile IsNew
 first_parts (kind.FeedUnits n) h k =
-    after_escape in_first_profile IsNew 0x4A (n ∷ []) refl (one_below in_first_profile is_byte kind.FeedUnits (λ m. refl)) (units refl refl)
-first_parts (kind.Pulse p) h k = after_escape in_first_profile IsNew 0x70 (p.0 ∷ p.1 ∷ p.2 ∷ []) refl pulse_below (pulse refl refl)
+    after_escape in_first_profile IsNew 0x4A (n ∷ []) refl
+    (form_below in_first_profile (ESC ∷ 0x4A ∷ []) refl (one_below in_first_profile is_byte kind.FeedUnits (λ m. refl))) (units refl refl)
+first_parts (kind.Pulse p) h k = after_escape in_first_profile IsNew 0x70 (p.0 ∷ p.1 ∷ p.2 ∷ []) refl no_pulse (pulse refl refl)
 first_parts (kind.Raster r) h k = raster_parts r.scale r.width r.height r.dots h k
 first_parts c h k = later_parts in_first_profile IsNew first c h

@@ -4,6 +4,9 @@ pub mod Combinators
 pub mod BarcodeTree
 pub mod RasterTree
 pub mod QrTree
+pub mod Planting
+pub mod SettingRows
+pub mod SettingFacts
 pub mod TableTree
 pub mod Readings
 pub mod Profiles

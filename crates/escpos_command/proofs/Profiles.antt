@@ -1,18 +1,29 @@
 -- The laws of an earlier profile, from one fact for each command of the table that the profile lacks: where its spelling parts
 -- from the commands that the profile has. Nothing else here is about a kind of command.
-use Rattle.std.proofs.Common.{zero, suc, ◌≡◌, ◌⊎◌, inl, inr, ℕ, List, [], ◌∷◌, ◌++◌, length, take, refl, sym, ◌∙◌, ap, subst, append_assoc, append-nil, arith, Bool, true, false, cond, IsTrue, length-append}
-use Rattle.std.specs.Prelude.{◌==◌, slice_index}
+use Rattle.std.proofs.Common.{zero, suc, ◌≡◌, ◌⊎◌, inl, inr, ℕ, List, [], ◌∷◌, ◌++◌, length, take, refl, sym, ◌∙◌, ap, subst, append_assoc, append-nil, arith, Bool, true, false, cond, IsTrue, length-append, Option, None, Some}
+use Rattle.std.specs.Prelude.{◌==◌, slice_index, option_to_list}
 use Rattle.std.specs.List.{AllByRecursion}
 use Rattle.std.proofs.lemmas.Grind.{flat_map-append}
 use Rattle.std.proofs.Math.Seq.{take-append_seam, get_or-append_seam}
 use Rattle.escpos_command.specs.declared.command.Command.{Command}
 use Rattle.escpos_command.specs.declared.fault.FaultReason.{FaultReason}
 use Rattle.escpos_command.specs.CommandTable.{Spells, IsCommand, row, spell}
-use Rattle.escpos_command.specs.Grammar.{Half, Reads, FaultAt}
+use Rattle.escpos_command.specs.declared.command.Command.TheVariants as kind
+use Rattle.escpos_command.specs.declared.setting.Row.{Row}
+use Rattle.escpos_command.specs.declared.setting.SettingKind.{SettingKind}
+use Rattle.escpos_command.specs.declared.setting.Values.{Values}
+use Rattle.escpos_command.specs.declared.setting.Values.TheVariants as values
+use Rattle.escpos_command.specs.Grammar.{Viable, Half, Reads, FaultAt}
+use Rattle.escpos_command.specs.SettingTable.{table, may_follow, is_nothing, fits, row_prefix, row_for}
 use Rattle.escpos_command.specs.Places.{reason_after}
 use Rattle.escpos_command.specs.Profiles.{ViableIn, HalfIn, ReadsIn, FaultAtIn, IsReadIn, IsRefusedIn}
-use Rattle.escpos_command.specs.Tree.{Tree, dead, leaf, node, walk, grammar, one, none, branch, these, passing, counted}
+use Rattle.escpos_command.specs.Tree.{Tree, dead, leaf, node, walk, forms, grammar, one, none, branch, these, passing, counted}
 use Rattle.escpos_command.proofs.Readings.{half_at_node, leads_spelling, no_prefix, not_empty, not_viable_at_dead, one_command, spelling_at_leaf, viable_where_live}
+use Rattle.escpos_command.proofs.Combinators.{at_row}
+use Rattle.escpos_command.proofs.Planting.{has_form, tree_after}
+use Rattle.escpos_command.proofs.SettingFacts.{is_table}
+use Rattle.escpos_command.proofs.SettingRows.{own_kind, some_value}
+use Rattle.escpos_command.proofs.TableTree.{form, setting, spelled_setting}
 use Rattle.escpos_command.proofs.Walks.{IsLive}
 
 abbrev pub RestIn : (Command → Bool) → List ℕ → Type 0
@@ -97,6 +108,44 @@ not_in has c h k = let clash : true ≡ false = sym k ∙ h in cc
 
 pub none_below : (has : Command → Bool) (bs : List ℕ) → ((w : List ℕ) (c : Command) → walk grammar (bs ++ w) ≡ leaf c → has c ≡ false) → ViableIn has bs → ⊥
 none_below has bs below v = not_in has v.0 (below v.1 v.0 (leads_spelling v.0 (bs ++ v.1) v.2.1)) v.2.0
+
+-- Below the prefix of a form there is what is below its tree.
+pub form_below : (has : Command → Bool) (q : List ℕ) → has_form q forms ≡ true → ((w : List ℕ) (c : Command) → walk (tree_after q forms) w ≡ leaf c → has c ≡ false)
+    → (w : List ℕ) (c : Command) → walk grammar (q ++ w) ≡ leaf c → has c ≡ false
+form_below has q there none w c e = none w c (sym (form q w there) ∙ e)
+
+-- Below that of a setting there are settings of its kind.
+made_by : (b : Bool) (r : Row) (w : List ℕ) (c : Command)
+    → walk (cond b (leaf (kind.Set (r.kind, None))) (one (may_follow r.values) (λ n. kind.Set (r.kind, Some n)))) w ≡ leaf c → (p : Option ℕ) × (c ≡ kind.Set (r.kind, p))
+made_by true r w c e = (None, same_leaf (kind.Set (r.kind, None)) w c e)
+made_by false r [] c e = absurd cc
+made_by false r (n ∷ w) c e =
+    (Some n, same_leaf (kind.Set (r.kind, Some n)) w c (chosen (may_follow r.values n) (leaf (kind.Set (r.kind, Some n))) w c e))
+
+setting_below : (has : Command → Bool) (which : SettingKind) → ((p : Option ℕ) → has (kind.Set (which, p)) ≡ false)
+    → (w : List ℕ) (c : Command) → walk grammar (row_prefix (row_for table which) ++ w) ≡ leaf c → has c ≡ false
+setting_below has which lacks w c e =
+    let r = row_for table which in
+    let made = made_by (is_nothing r.values) r w c (sym (setting which w) ∙ e) in
+    ap has (made.1 ∙ ap (λ k. kind.Set (k, made.0)) (own_kind table which is_table)) ∙ lacks made.0
+
+pub no_setting_in : (has : Command → Bool) (which : SettingKind) → ((p : Option ℕ) → has (kind.Set (which, p)) ≡ false) → ViableIn has (row_prefix (row_for table which)) → ⊥
+no_setting_in has which lacks = none_below has (row_prefix (row_for table which)) (setting_below has which lacks)
+
+-- Some setting of each kind is spelled.
+some_parameter : Values → Option ℕ
+some_parameter values.Nothing = None
+some_parameter v = Some (some_value v)
+
+some_fits : (v : Values) → fits v (some_parameter v) ≡ true
+unfolding some_parameter
+some_fits values.Nothing = refl
+some_fits _ = refl
+
+pub setting_viable : (which : SettingKind) → Viable (row_prefix (row_for table which))
+setting_viable which =
+    let p = some_parameter (row_for table which).values in
+    (kind.Set (which, p), option_to_list p, subst (λ bs. Spells (kind.Set (which, p)) bs) (spelled_setting which p) (at_row (kind.Set (which, p)) (some_fits (row_for table which).values)))
 
 pub shorter : (has : Command → Bool) (p q : List ℕ) → ViableIn has (p ++ q) → ViableIn has p
 shorter has p q v = (v.0, q ++ v.1, (v.2.0, subst (λ xs. Spells v.0 xs) (append_assoc p q v.1) v.2.1))

@@ -15,7 +15,7 @@ use Rattle.escpos_command.specs.Laws.{IsRead, IsRefused}
 use Rattle.escpos_command.specs.Places.{reason_after}
 use Rattle.escpos_command.specs.Tree.{Tree, dead, leaf, node, walk, grammar}
 use Rattle.escpos_command.proofs.Walks.{IsLive, Good, walk-append, walk-nil, good_walk, good_live}
-use Rattle.escpos_command.proofs.TableTree.{leads, good}
+use Rattle.escpos_command.proofs.TableTree.{at_start, leads, good}
 
 -- ## Where bytes lead in the tree says what they are
 
@@ -93,7 +93,7 @@ abbrev IsRest : List ℕ → Type 0
 IsRest rest = (rest ≡ []) ⊎ Half rest
 
 silent_rest : (rest : List ℕ) → IsRest rest → Silent rest
-silent_rest rest (inl e) = ap (run grammar) e
+silent_rest rest (inl e) = ap (run grammar) e ∙ ap (λ t. run t []) at_start.1
 silent_rest rest (inr h) =
     let n = node_at_half rest h in
     ap (run grammar) (sym (append-nil rest)) ∙ run-node grammar rest [] n.0 n.1
@@ -113,7 +113,7 @@ pub dead_at_refused : (bs : List ℕ) → (Viable bs → ⊥) → walk grammar b
 dead_at_refused bs r = dead_where_refused bs (walk grammar bs) refl r
 
 node_at_rest : (rest : List ℕ) → IsRest rest → (next : ℕ → Tree) × (walk grammar rest ≡ node next)
-node_at_rest rest (inl e) = (_, ap (walk grammar) e)
+node_at_rest rest (inl e) = (at_start.0, ap (walk grammar) e ∙ walk-nil grammar ∙ at_start.1)
 node_at_rest rest (inr h) = node_at_half rest h
 
 silent_refused : (rest : List ℕ) (b : ℕ) (more : List ℕ) → IsRest rest → (Viable (rest ++ b ∷ []) → ⊥) → Silent (rest ++ b ∷ more)

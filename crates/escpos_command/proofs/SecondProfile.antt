@@ -1,24 +1,30 @@
--- Where the commands that are new since the second profile part from those of an earlier profile: at their letter. A kind of
--- command adds a case to `later_parts`.
-use Rattle.std.proofs.Common.{◌≡◌, ℕ, ◌+◌, ◌-◌, ◌*◌, List, [], ◌∷◌, ◌++◌, refl, ap, ◌∙◌, Bool, true, false, cond, ◌⊎◌, inl, inr, sym, subst, append_assoc}
-use Rattle.std.specs.Prelude.{◌==◌, nat_le, ◌||◌}
+-- Where the commands that are new since the second profile part from those of an earlier profile: at their letter. A form of
+-- command adds a case to `later_parts`, and a setting none.
+use Rattle.std.proofs.Common.{◌≡◌, ℕ, ◌+◌, ◌-◌, ◌*◌, List, [], ◌∷◌, ◌++◌, refl, ap, ◌∙◌, Bool, true, false, cond, ◌⊎◌, inl, inr, sym, subst, arith, Option, None}
+use Rattle.std.specs.Prelude.{◌==◌, nat_le, nat_lt, ◌||◌, option_to_list}
+use Rattle.std.proofs.lemmas.Bool.Decides.{nat_tests}
 use Rattle.escpos_command.specs.Grammar.{Viable}
 use Rattle.escpos_command.specs.declared.bytes.TheConstants.{ESC, GS}
 use Rattle.escpos_command.specs.declared.command.Command.{Command}
 use Rattle.escpos_command.specs.declared.command.Command.TheVariants as kind
-use Rattle.escpos_command.specs.Parameters.{is_byte, is_character_set, is_qr_model, is_qr_size, is_qr_level}
+use Rattle.escpos_command.specs.declared.setting.SettingKind.{SettingKind}
+use Rattle.escpos_command.specs.Parameters.{is_byte, is_qr_model, is_qr_size, is_qr_level}
 use Rattle.escpos_command.specs.QrCodes.{is_qr_length}
-use Rattle.escpos_command.specs.CommandTable.{IsCommand, row, Spells}
-use Rattle.escpos_command.specs.SecondProfile.{in_second_profile, IsNewLetter, after_esc, after_gs, after_bracket, is_new_after_esc, is_new_after_gs}
-use Rattle.escpos_command.specs.Profiles.{ViableIn}
+use Rattle.escpos_command.specs.SettingTable.{table, row_prefix, number, blank, row_for}
+use Rattle.escpos_command.specs.CommandTable.{IsCommand, row}
+use Rattle.escpos_command.specs.SecondProfile.{in_second_profile, IsNewLetter, setting, status, after_bracket}
+use Rattle.escpos_command.specs.Profiles.{ViableIn, IsNewSetting}
 use Rattle.escpos_command.specs.Tree.{Tree, leaf, dead, node, walk, grammar, passing, these, one, none, branch, qr_data, qr_functions, qr_function, qr_code, qr_high, qr}
 use Rattle.escpos_command.proofs.Combinators.{at_row, same_number}
-use Rattle.escpos_command.proofs.Profiles.{Parts, AllPart, none_below, one_below, leaf_below, passing_below, these_below, branch_below, counted_below, chosen}
+use Rattle.escpos_command.proofs.Profiles.{Parts, AllPart, none_below, one_below, leaf_below, passing_below, these_below, branch_below, counted_below, chosen, form_below, no_setting_in, setting_viable}
+use Rattle.escpos_command.proofs.SettingFacts.{is_table, two_first}
+use Rattle.escpos_command.proofs.SettingRows.{all_at, covered}
+use Rattle.escpos_command.proofs.TableTree.{spelled_setting}
 
--- A profile that has ESC @, GS w and marks, and none of the new commands, which are new to it.
+-- A profile that has ESC @, GS V and marks, and none of the new commands, which are new to it.
 pub record Earlier (has : Command → Bool) (New : List ℕ → ℕ → Type 0) : Type 0 where
   pub init : has kind.Init ≡ true
-  pub bar_width : has (kind.BarWidth 2) ≡ true
+  pub cut : has (kind.Cut (0, None)) ≡ true
   pub mark : has (kind.Mark (32 ∷ 32 ∷ 32 ∷ 32 ∷ [])) ≡ true
   pub lacks : (c : Command) → in_second_profile c ≡ false → has c ≡ false
   pub new : (rest : List ℕ) (b : ℕ) → IsNewLetter rest b → New rest b
@@ -26,8 +32,8 @@ pub record Earlier (has : Command → Bool) (New : List ℕ → ℕ → Type 0) 
 pub escape_in : (has : Command → Bool) → has kind.Init ≡ true → ViableIn has (ESC ∷ [])
 escape_in has h = (kind.Init, 0x40 ∷ [], (h, at_row kind.Init refl))
 
-group_in : (has : Command → Bool) → has (kind.BarWidth 2) ≡ true → ViableIn has (GS ∷ [])
-group_in has h = (kind.BarWidth 2, 0x77 ∷ 2 ∷ [], (h, at_row (kind.BarWidth 2) refl))
+group_in : (has : Command → Bool) → has (kind.Cut (0, None)) ≡ true → ViableIn has (GS ∷ [])
+group_in has h = (kind.Cut (0, None), 0x56 ∷ 0 ∷ [], (h, at_row (kind.Cut (0, None)) refl))
 
 pub after_escape : (has : Command → Bool) (New : List ℕ → ℕ → Type 0) (letter : ℕ) (after : List ℕ) → has kind.Init ≡ true
     → ((w : List ℕ) (c : Command) → walk grammar (ESC ∷ letter ∷ w) ≡ leaf c → has c ≡ false) → New (ESC ∷ []) letter → Parts has New (ESC ∷ letter ∷ after)
@@ -41,7 +47,7 @@ after_escape has New letter after h below new = record {
   new = new;
 }
 
-pub after_group : (has : Command → Bool) (New : List ℕ → ℕ → Type 0) (letter : ℕ) (after : List ℕ) → has (kind.BarWidth 2) ≡ true
+pub after_group : (has : Command → Bool) (New : List ℕ → ℕ → Type 0) (letter : ℕ) (after : List ℕ) → has (kind.Cut (0, None)) ≡ true
     → ((w : List ℕ) (c : Command) → walk grammar (GS ∷ letter ∷ w) ≡ leaf c → has c ≡ false) → New (GS ∷ []) letter → Parts has New (GS ∷ letter ∷ after)
 after_group has New letter after h below new = record {
   before = GS ∷ [];
@@ -52,6 +58,10 @@ after_group has New letter after h below new = record {
   none = none_below has (GS ∷ letter ∷ []) below;
   new = new;
 }
+
+either : (a b : Bool) → (a || b) ≡ true → (a ≡ true) ⊎ (b ≡ true)
+either true b h = inl refl
+either false b h = inr h
 
 -- ## QR codes
 
@@ -113,29 +123,45 @@ after_bracket_k has New after e = record {
   after = after;
   whole = refl;
   allowed = bracket_in has e.mark;
-  none = none_below has (GS ∷ 0x28 ∷ 0x6B ∷ []) (qr_below has e.lacks);
+  none = none_below has (GS ∷ 0x28 ∷ 0x6B ∷ []) (form_below has (GS ∷ 0x28 ∷ 0x6B ∷ []) refl (qr_below has e.lacks));
   new = e.new _ _ (after_bracket refl refl);
 }
+
+-- ## Settings
+
+begun : (first : ℕ) → (first == ESC || first == GS) ≡ true → (has : Command → Bool) → has kind.Init ≡ true → has (kind.Cut (0, None)) ≡ true → ViableIn has (first ∷ [])
+begun first h has init cut = elim (either (first == ESC) (first == GS) h) [
+  | inl e ↦ subst (λ v. ViableIn has (v ∷ [])) (sym (same_number first ESC e)) (escape_in has init)
+  | inr e ↦ subst (λ v. ViableIn has (v ∷ [])) (sym (same_number first GS e)) (group_in has cut)
+]
+
+came_later : (since n : ℕ) → nat_le since n ≡ false → nat_lt n since ≡ true
+came_later since n h = grind (arith, nat_tests)
+
+-- A setting that the profile of this number lacked parts from its commands at the last letter of its prefix.
+pub parts_at_setting : (has : Command → Bool) (New : List ℕ → ℕ → Type 0) (n : ℕ) → has kind.Init ≡ true → has (kind.Cut (0, None)) ≡ true
+    → ((rest : List ℕ) (b : ℕ) → IsNewSetting n rest b → New rest b) → (s : SettingKind × Option ℕ) → ((p : Option ℕ) → has (kind.Set (s.0, p)) ≡ false)
+    → nat_le (row_for table s.0).since n ≡ false → Parts has New (row (kind.Set s))
+parts_at_setting has New n init cut new s lacks h =
+    let r = row_for table s.0 in
+    record {
+      before = r.first ∷ [];
+      letter = r.second;
+      after = option_to_list s.1;
+      whole = spelled_setting s.0 s.1;
+      allowed = begun r.first (all_at (λ t. t.first == ESC || t.first == GS) table (number s.0) blank two_first (covered table is_table s.0)) has init cut;
+      none = no_setting_in has s.0 lacks;
+      new = new (r.first ∷ []) r.second (record { which = s.0; later = came_later r.since n h; ends = refl });
+    }
 
 -- ## All commands
 
 pub later_parts : (has : Command → Bool) (New : List ℕ → ℕ → Type 0) → Earlier has New → (c : Command) → in_second_profile c ≡ false → Parts has New (row c)
-later_parts has New e kind.DefaultSpacing h =
-    after_escape has New 0x32 [] e.init (leaf_below has kind.DefaultSpacing (e.lacks kind.DefaultSpacing refl)) (e.new _ _ (after_esc refl refl))
-later_parts has New e (kind.LineSpacing n) h =
-    after_escape has New 0x33 (n ∷ []) e.init (one_below has is_byte kind.LineSpacing (λ m. e.lacks (kind.LineSpacing m) refl)) (e.new _ _ (after_esc refl refl))
-later_parts has New e (kind.DoubleStrike n) h =
-    after_escape has New 0x47 (n ∷ []) e.init (one_below has is_byte kind.DoubleStrike (λ m. e.lacks (kind.DoubleStrike m) refl)) (e.new _ _ (after_esc refl refl))
-later_parts has New e (kind.CharacterSet n) h =
-    after_escape has New 0x52 (n ∷ []) e.init (one_below has is_character_set kind.CharacterSet (λ m. e.lacks (kind.CharacterSet m) refl)) (e.new _ _ (after_esc refl refl))
-later_parts has New e (kind.UpsideDown n) h =
-    after_escape has New 0x7B (n ∷ []) e.init (one_below has is_byte kind.UpsideDown (λ m. e.lacks (kind.UpsideDown m) refl)) (e.new _ _ (after_esc refl refl))
-later_parts has New e (kind.Reverse n) h =
-    after_group has New 0x42 (n ∷ []) e.bar_width (one_below has is_byte kind.Reverse (λ m. e.lacks (kind.Reverse m) refl)) (e.new _ _ (after_gs refl refl))
-later_parts has New e (kind.Smoothing n) h =
-    after_group has New 0x62 (n ∷ []) e.bar_width (one_below has is_byte kind.Smoothing (λ m. e.lacks (kind.Smoothing m) refl)) (e.new _ _ (after_gs refl refl))
+later_parts has New e (kind.Set s) h =
+    parts_at_setting has New 2 e.init e.cut (λ rest b k. e.new rest b (setting k)) s (λ p. e.lacks (kind.Set (s.0, p)) h) h
 later_parts has New e (kind.AutomaticStatus n) h =
-    after_group has New 0x61 (n ∷ []) e.bar_width (one_below has is_byte kind.AutomaticStatus (λ m. e.lacks (kind.AutomaticStatus m) refl)) (e.new _ _ (after_gs refl refl))
+    after_group has New 0x61 (n ∷ []) e.cut
+    (form_below has (GS ∷ 0x61 ∷ []) refl (one_below has is_byte kind.AutomaticStatus (λ m. e.lacks (kind.AutomaticStatus m) refl))) (e.new _ _ (status refl refl))
 later_parts has New e (kind.QrModel n) h = after_bracket_k has New _ e
 later_parts has New e (kind.QrSize n) h = after_bracket_k has New _ e
 later_parts has New e (kind.QrLevel n) h = after_bracket_k has New _ e
@@ -145,20 +171,9 @@ later_parts has New e (kind.Char x) h = absurd cc
 later_parts has New e kind.LineFeed h = absurd cc
 later_parts has New e kind.Return h = absurd cc
 later_parts has New e kind.Init h = absurd cc
-later_parts has New e (kind.Mode x) h = absurd cc
-later_parts has New e (kind.Emphasis x) h = absurd cc
-later_parts has New e (kind.Underline x) h = absurd cc
-later_parts has New e (kind.Font x) h = absurd cc
-later_parts has New e (kind.Table x) h = absurd cc
-later_parts has New e (kind.Align x) h = absurd cc
 later_parts has New e (kind.FeedLines x) h = absurd cc
 later_parts has New e (kind.FeedUnits x) h = absurd cc
 later_parts has New e (kind.Pulse x) h = absurd cc
-later_parts has New e (kind.Size x) h = absurd cc
-later_parts has New e (kind.BarHeight x) h = absurd cc
-later_parts has New e (kind.BarWidth x) h = absurd cc
-later_parts has New e (kind.HriPlace x) h = absurd cc
-later_parts has New e (kind.HriFont x) h = absurd cc
 later_parts has New e (kind.Bars x) h = absurd cc
 later_parts has New e (kind.Raster x) h = absurd cc
 later_parts has New e (kind.Cut x) h = absurd cc
@@ -166,75 +181,38 @@ later_parts has New e (kind.Status x) h = absurd cc
 later_parts has New e (kind.Mark x) h = absurd cc
 
 second : Earlier in_second_profile IsNewLetter
-second = record { init = refl; bar_width = refl; mark = refl; lacks = λ c h. h; new = λ rest b h. h }
+second = record { init = refl; cut = refl; mark = refl; lacks = λ c h. h; new = λ rest b h. h }
 
 pub second_parts : AllPart in_second_profile IsNewLetter
 second_parts c h k = later_parts in_second_profile IsNewLetter second c h
 
 -- ## What is new is taken now, and wasn't
 
-record IsTakenNow (bs : List ℕ) : Type 0 where
-  pub now : Viable bs
-  pub not_then : ViableIn in_second_profile bs → ⊥
+pub new_setting_is_taken : (has : Command → Bool) (n : ℕ) → ((which : SettingKind) (p : Option ℕ) → nat_lt n (row_for table which).since ≡ true → has (kind.Set (which, p)) ≡ false)
+    → (rest : List ℕ) (b : ℕ) → IsNewSetting n rest b → Viable (rest ++ b ∷ []) × (ViableIn has (rest ++ b ∷ []) → ⊥)
+new_setting_is_taken has n lacks rest b new =
+    subst (λ v. Viable v × (ViableIn has v → ⊥)) new.ends (setting_viable new.which, no_setting_in has new.which (λ p. lacks new.which p new.later))
 
--- At the place where a command parts from the second profile.
-taken_there : (c : Command) → in_second_profile c ≡ false → IsCommand c → (before : List ℕ) (letter : ℕ) (after : List ℕ)
-    → row c ≡ before ++ letter ∷ after → (ViableIn in_second_profile (before ++ letter ∷ []) → ⊥) → IsTakenNow (before ++ letter ∷ [])
-taken_there c h k before letter after whole none = record {
-  now = (c, after, subst (λ bs. Spells c bs) (whole ∙ sym (append_assoc before (letter ∷ []) after)) (at_row c k));
-  not_then = none;
-}
+pub is_later : (since n : ℕ) → nat_lt n since ≡ true → nat_le since n ≡ false
+is_later since n h = grind (arith, nat_tests)
 
-either : (a b : Bool) → (a || b) ≡ true → (a ≡ true) ⊎ (b ≡ true)
-either true b h = inl refl
-either false b h = inr h
+after_rest : (rest others : List ℕ) (b letter : ℕ) → rest ≡ others → b ≡ letter → Viable (others ++ letter ∷ []) → (ViableIn in_second_profile (others ++ letter ∷ []) → ⊥)
+    → Viable (rest ++ b ∷ []) × (ViableIn in_second_profile (rest ++ b ∷ []) → ⊥)
+after_rest rest others b letter e same now then =
+    subst (λ v. Viable (v ++ b ∷ []) × (ViableIn in_second_profile (v ++ b ∷ []) → ⊥)) (sym e)
+    (subst (λ x. Viable (others ++ x ∷ []) × (ViableIn in_second_profile (others ++ x ∷ []) → ⊥)) (sym same) (now, then))
 
-after_escape_now : (b letter : ℕ) → (b == letter) ≡ true → IsTakenNow (ESC ∷ letter ∷ []) → IsTakenNow (ESC ∷ b ∷ [])
-after_escape_now b letter h taken = subst (λ v. IsTakenNow (ESC ∷ v ∷ [])) (sym (same_number b letter h)) taken
+no_status : ViableIn in_second_profile (GS ∷ 0x61 ∷ []) → ⊥
+no_status =
+    none_below in_second_profile (GS ∷ 0x61 ∷ [])
+    (form_below in_second_profile (GS ∷ 0x61 ∷ []) refl (one_below in_second_profile is_byte kind.AutomaticStatus (λ m. refl)))
 
-after_group_now : (b letter : ℕ) → (b == letter) ≡ true → IsTakenNow (GS ∷ letter ∷ []) → IsTakenNow (GS ∷ b ∷ [])
-after_group_now b letter h taken = subst (λ v. IsTakenNow (GS ∷ v ∷ [])) (sym (same_number b letter h)) taken
-
-not_after : (c : Command) → in_second_profile c ≡ false → Parts in_second_profile IsNewLetter (row c)
-not_after c h = later_parts in_second_profile IsNewLetter second c h
-
-escape_letters : (b : ℕ) → is_new_after_esc b ≡ true → IsTakenNow (ESC ∷ b ∷ [])
-unfolding not_after later_parts after_escape after_group
-escape_letters b h =
-    elim (either (b == 0x32 || b == 0x33 || b == 0x47 || b == 0x52) (b == 0x7B) h) [
-      | inr e ↦ after_escape_now b 0x7B e (taken_there (kind.UpsideDown 0) refl refl (ESC ∷ []) 0x7B (0 ∷ []) refl (not_after (kind.UpsideDown 0) refl).none)
-      | inl i ↦ elim (either (b == 0x32 || b == 0x33 || b == 0x47) (b == 0x52) i) [
-        | inr e ↦ after_escape_now b 0x52 e (taken_there (kind.CharacterSet 0) refl refl (ESC ∷ []) 0x52 (0 ∷ []) refl (not_after (kind.CharacterSet 0) refl).none)
-        | inl j ↦ elim (either (b == 0x32 || b == 0x33) (b == 0x47) j) [
-          | inr e ↦ after_escape_now b 0x47 e (taken_there (kind.DoubleStrike 0) refl refl (ESC ∷ []) 0x47 (0 ∷ []) refl (not_after (kind.DoubleStrike 0) refl).none)
-          | inl k ↦ elim (either (b == 0x32) (b == 0x33) k) [
-            | inr e ↦ after_escape_now b 0x33 e (taken_there (kind.LineSpacing 0) refl refl (ESC ∷ []) 0x33 (0 ∷ []) refl (not_after (kind.LineSpacing 0) refl).none)
-            | inl e ↦ after_escape_now b 0x32 e (taken_there kind.DefaultSpacing refl refl (ESC ∷ []) 0x32 [] refl (not_after kind.DefaultSpacing refl).none)
-          ]
-        ]
-      ]
-    ]
-
-group_letters : (b : ℕ) → is_new_after_gs b ≡ true → IsTakenNow (GS ∷ b ∷ [])
-unfolding not_after later_parts after_escape after_group
-group_letters b h =
-    elim (either (b == 0x42 || b == 0x61) (b == 0x62) h) [
-      | inr e ↦ after_group_now b 0x62 e (taken_there (kind.Smoothing 0) refl refl (GS ∷ []) 0x62 (0 ∷ []) refl (not_after (kind.Smoothing 0) refl).none)
-      | inl i ↦ elim (either (b == 0x42) (b == 0x61) i) [
-        | inr e ↦ after_group_now b 0x61 e (taken_there (kind.AutomaticStatus 0) refl refl (GS ∷ []) 0x61 (0 ∷ []) refl (not_after (kind.AutomaticStatus 0) refl).none)
-        | inl e ↦ after_group_now b 0x42 e (taken_there (kind.Reverse 0) refl refl (GS ∷ []) 0x42 (0 ∷ []) refl (not_after (kind.Reverse 0) refl).none)
-      ]
-    ]
-
-after_rest : (rest others : List ℕ) (b : ℕ) → rest ≡ others → IsTakenNow (others ++ b ∷ []) → Viable (rest ++ b ∷ []) × (ViableIn in_second_profile (rest ++ b ∷ []) → ⊥)
-after_rest rest others b e taken =
-    subst (λ v. Viable (v ++ b ∷ []) × (ViableIn in_second_profile (v ++ b ∷ []) → ⊥)) (sym e) (taken.now, taken.not_then)
-
-bracket_k : IsTakenNow (GS ∷ 0x28 ∷ 0x6B ∷ [])
-unfolding not_after later_parts after_bracket_k
-bracket_k = taken_there kind.QrPrint refl refl (GS ∷ 0x28 ∷ []) 0x6B (0x03 ∷ 0x00 ∷ 0x31 ∷ 0x51 ∷ 0x30 ∷ []) refl (not_after kind.QrPrint refl).none
+no_functions : ViableIn in_second_profile (GS ∷ 0x28 ∷ 0x6B ∷ []) → ⊥
+no_functions =
+    none_below in_second_profile (GS ∷ 0x28 ∷ 0x6B ∷ []) (form_below in_second_profile (GS ∷ 0x28 ∷ 0x6B ∷ []) refl (qr_below in_second_profile (λ c h. h)))
 
 pub new_is_taken : (rest : List ℕ) (b : ℕ) → IsNewLetter rest b → Viable (rest ++ b ∷ []) × (ViableIn in_second_profile (rest ++ b ∷ []) → ⊥)
-new_is_taken rest b (after_esc e h) = after_rest rest (ESC ∷ []) b e (escape_letters b h)
-new_is_taken rest b (after_gs e h) = after_rest rest (GS ∷ []) b e (group_letters b h)
-new_is_taken rest b (after_bracket e same) = after_rest rest (GS ∷ 0x28 ∷ []) b e (subst (λ v. IsTakenNow (GS ∷ 0x28 ∷ v ∷ [])) (sym same) bracket_k)
+new_is_taken rest b (setting new) = new_setting_is_taken in_second_profile 2 (λ which p h. is_later (row_for table which).since 2 h) rest b new
+new_is_taken rest b (status e h) = after_rest rest (GS ∷ []) b 0x61 e h (kind.AutomaticStatus 0, 0 ∷ [], at_row (kind.AutomaticStatus 0) refl) no_status
+new_is_taken rest b (after_bracket e h) =
+    after_rest rest (GS ∷ 0x28 ∷ []) b 0x6B e h (kind.QrPrint, 0x03 ∷ 0x00 ∷ 0x31 ∷ 0x51 ∷ 0x30 ∷ [], at_row kind.QrPrint refl) no_functions

@@ -1,30 +1,93 @@
--- The rows of the command table in the tree: each spelling leads to its command, and the tree is good. A
--- kind of command adds a case to `leads` and an entry to the proof of its table.
-use Rattle.std.proofs.Common.{◌≡◌, ℕ, List, [], ◌∷◌, ◌++◌, refl, ◌∙◌, ap, sym, subst, append-nil, cond, arith, true, false, IsTrue, length}
-use Rattle.std.specs.Prelude.{◌==◌, ◌&&◌, Option, None, Some, option_to_list}
-use Rattle.std.specs.List.{list_all}
+-- The commands in the tree: each spelling leads to its command, and the tree is good. A form of command adds a case to `leads`
+-- and an entry to `good_forms`; a setting adds nothing.
+use Rattle.std.proofs.Common.{◌≡◌, ◌<◌, ℕ, List, [], ◌∷◌, ◌++◌, refl, ◌∙◌, ap, sym, subst, append-nil, cond, arith, Bool, true, false, IsTrue, length}
+use Rattle.std.specs.Prelude.{◌==◌, ◌&&◌, ◌||◌, not, nat_lt, Option, None, Some, option_to_list}
+use Rattle.std.specs.List.{list_all, AllByRecursion}
 use Rattle.std.proofs.lemmas.Bool.Decides.{nat_tests}
-use Rattle.escpos_command.specs.declared.bytes.TheConstants.{LF, DLE, ESC, GS, EOT}
+use Rattle.escpos_command.specs.declared.bytes.TheConstants.{LF, CR, DLE, ESC, GS, EOT}
 use Rattle.escpos_command.specs.declared.command.Command.{Command}
 use Rattle.escpos_command.specs.declared.command.Command.TheVariants as kind
-use Rattle.escpos_command.specs.Parameters.{is_character, is_character_set, is_one_of_two, is_one_of_three, is_one_of_four, is_size, is_bar_height, is_bar_width, is_status_kind, is_feed_cut_mode, is_byte, is_cut, is_pulse, is_mark_byte, is_mark_id, is_qr_size, is_qr_level}
+use Rattle.escpos_command.specs.declared.setting.Row.{Row}
+use Rattle.escpos_command.specs.declared.setting.SettingKind.{SettingKind}
+use Rattle.escpos_command.specs.Parameters.{is_character, is_one_of_two, is_status_kind, is_feed_cut_mode, is_byte, is_cut, is_pulse, is_mark_byte, is_mark_id, is_qr_size, is_qr_level}
+use Rattle.escpos_command.specs.SettingTable.{table, fits, row_prefix, number, blank, row_at, row_for, is_setting}
 use Rattle.escpos_command.specs.CommandTable.{Spells, IsCommand, row}
-use Rattle.escpos_command.specs.Tree.{leaf, dead, walk, branch, none, one, passing, first, character, after_esc, after_gs, after_dle, after_bracket, cut, mark, pulse, grammar, counted}
+use Rattle.escpos_command.specs.Tree.{Tree, leaf, dead, node, walk, planted, all_planted, one, passing, character, cut, mark, pulse, forms, setting_tree, settings, grammar, counted}
 use Rattle.escpos_command.proofs.BarcodeTree.{leads_barcode, good_barcodes}
 use Rattle.escpos_command.proofs.RasterTree.{leads_raster, good_raster}
 use Rattle.escpos_command.proofs.QrTree.{leads_model, leads_store, good_qr}
-use Rattle.escpos_command.proofs.Walks.{Good}
-use Rattle.escpos_command.proofs.Combinators.{good_choice, good_passing, good_one, good_branch, good_these, good_counted, walk-counted, walk-one, live_counted, all_from_all, and_left, and_right, both, same_number, at_row}
+use Rattle.escpos_command.proofs.Walks.{Good, IsLive}
+use Rattle.escpos_command.proofs.Combinators.{good_choice, good_passing, good_one, good_these, good_counted, walk-counted, walk-one, live_counted, all_from_all, and_left, and_right, both, same_number, at_row}
+use Rattle.escpos_command.proofs.Planting.{Forms, apart, part_from, has_form, tree_after, all_elsewhere, all_there, all_good}
+use Rattle.escpos_command.proofs.SettingRows.{SpellsSettings, all_at, covered, own_kind, own_row, setting_there, settings_elsewhere, to_setting, good_settings}
+use Rattle.escpos_command.proofs.SettingFacts.{is_table}
+
+-- ## Where bytes lead
+
+-- Before the first byte there is a choice.
+pub at_start : (next : ℕ → Tree) × (grammar ≡ node next)
+unfolding grammar all_planted planted
+at_start = (_, refl)
+
+-- The prefix of a form leads to its tree.
+pub form : (q w : List ℕ) → has_form q forms ≡ true → walk grammar (q ++ w) ≡ walk (tree_after q forms) w
+unfolding grammar
+form q w h = all_there forms q w (settings table (node character)) refl h
+
+-- The prefix of a setting leads to what may follow it.
+pub setting : (which : SettingKind) (w : List ℕ) → walk grammar (row_prefix (row_for table which) ++ w) ≡ walk (setting_tree (row_for table which)) w
+unfolding grammar
+setting which w =
+    all_elsewhere forms (row_prefix (row_for table which)) w (settings table (node character))
+    (all_at (λ r. part_from (row_prefix r) forms) table (number which) blank is_table.beside_forms (covered table is_table which))
+    ∙ setting_there table (node character) which w is_table
+
+-- Bytes that part from every prefix lead to no more than a character.
+pub elsewhere : (q w : List ℕ) → part_from q forms ≡ true → list_all (λ r. apart (row_prefix r) q) table ≡ true → walk grammar (q ++ w) ≡ walk (node character) (q ++ w)
+unfolding grammar
+elsewhere q w h k = all_elsewhere forms q w (settings table (node character)) h ∙ settings_elsewhere table (node character) q w k
+
+-- The prefix begins with a byte that is no character.
+abbrev starts_low : List ℕ → Bool
+starts_low [] = false
+starts_low (b ∷ p) = nat_lt b 0x20
+
+other_byte : (b c : ℕ) → nat_lt b 0x20 ≡ true → is_character c ≡ true → (b == c) ≡ false
+other_byte b c h k = grind (arith, nat_tests)
+
+parts_from_character : (p : List ℕ) (c : ℕ) → starts_low p ≡ true → is_character c ≡ true → apart p (c ∷ []) ≡ true
+parts_from_character [] c h k = absurd cc
+parts_from_character (b ∷ p) c h k = ap (λ v. not v || apart p []) (other_byte b c h k)
+
+forms_part : (forms : Forms) (c : ℕ) → list_all (λ form. starts_low form.0) forms ≡ true → is_character c ≡ true → part_from (c ∷ []) forms ≡ true
+forms_part [] c h k = refl
+forms_part (form ∷ forms) c h k =
+    both _ _ (parts_from_character form.0 c (and_left (starts_low form.0) (list_all (λ other. starts_low other.0) forms) h) k)
+    (forms_part forms c (and_right (starts_low form.0) (list_all (λ other. starts_low other.0) forms) h) k)
+
+rows_part : (rows : List Row) (c : ℕ) → list_all (λ r. nat_lt r.first 0x20) rows ≡ true → is_character c ≡ true → list_all (λ r. apart (row_prefix r) (c ∷ [])) rows ≡ true
+rows_part [] c h k = refl
+rows_part (r ∷ rows) c h k =
+    both _ _ (parts_from_character (row_prefix r) c (and_left (nat_lt r.first 0x20) (list_all (λ s. nat_lt s.first 0x20) rows) h) k)
+    (rows_part rows c (and_right (nat_lt r.first 0x20) (list_all (λ s. nat_lt s.first 0x20) rows) h) k)
+
+-- ## Each spelling leads to its command
 
 -- A character begins no command of another kind.
-leads_character : (b : ℕ) → is_character b ≡ true → branch first character b ≡ leaf (kind.Char b)
+leads_character : (b : ℕ) → is_character b ≡ true → walk grammar (b ∷ []) ≡ leaf (kind.Char b)
 leads_character b h =
-    let line_feed : (b == 10) ≡ false = grind (arith, nat_tests) in
-    let carriage_return : (b == 13) ≡ false = grind (arith, nat_tests) in
-    let dle : (b == 16) ≡ false = grind (arith, nat_tests) in
-    let esc : (b == 27) ≡ false = grind (arith, nat_tests) in
-    let gs : (b == 29) ≡ false = grind (arith, nat_tests) in
-    rw (line_feed, carriage_return, dle, esc, gs, h)
+    elsewhere (b ∷ []) [] (forms_part forms b refl h) (rows_part table b is_table.low h)
+    ∙ ap (λ v. walk (cond v (leaf (kind.Char b)) dead) []) h
+
+-- A setting's parameter stands after its prefix.
+pub spelled_setting : (which : SettingKind) (p : Option ℕ) → row (kind.Set (which, p)) ≡ row_prefix (row_for table which) ++ option_to_list p
+spelled_setting which None = refl
+spelled_setting which (Some n) = refl
+
+leads_setting : (which : SettingKind) (p : Option ℕ) → is_setting table (which, p) ≡ true → walk grammar (row (kind.Set (which, p))) ≡ leaf (kind.Set (which, p))
+leads_setting which p h =
+    ap (walk grammar) (spelled_setting which p) ∙ setting which (option_to_list p) ∙ to_setting (row_for table which) p h
+    ∙ ap (λ k. leaf (kind.Set (k, p))) (own_kind table which is_table)
 
 -- A mode with a feed isn't a mode without one.
 feed_mode_apart : (m : ℕ) → is_feed_cut_mode m ≡ true → is_one_of_two m ≡ false
@@ -54,45 +117,32 @@ leads_pulse m on off h =
     ∙ ap (λ v. walk (cond v (one is_byte (λ off. kind.Pulse (m, on, off))) dead) (off ∷ [])) first
     ∙ walk-one is_byte (λ off. kind.Pulse (m, on, off)) off (and_right (is_one_of_two m && is_byte on) (is_byte off) h)
 
--- Each spelling leads to its command.
 pub leads : (c : Command) → IsCommand c → walk grammar (row c) ≡ leaf c
-leads (kind.Char b) h = ap (λ t. walk t []) (leads_character b h)
-leads kind.LineFeed h = refl
-leads kind.Return h = refl
-leads kind.Init h = refl
-leads (kind.Mode n) h = walk-one is_byte kind.Mode n h
-leads (kind.Emphasis n) h = walk-one is_byte kind.Emphasis n h
-leads (kind.DoubleStrike n) h = walk-one is_byte kind.DoubleStrike n h
-leads (kind.Underline n) h = walk-one is_one_of_three kind.Underline n h
-leads (kind.Font n) h = walk-one is_one_of_two kind.Font n h
-leads (kind.Table n) h = walk-one is_byte kind.Table n h
-leads (kind.CharacterSet n) h = walk-one is_character_set kind.CharacterSet n h
-leads (kind.Reverse n) h = walk-one is_byte kind.Reverse n h
-leads (kind.Smoothing n) h = walk-one is_byte kind.Smoothing n h
-leads (kind.UpsideDown n) h = walk-one is_byte kind.UpsideDown n h
-leads (kind.Align n) h = walk-one is_one_of_three kind.Align n h
-leads (kind.LineSpacing n) h = walk-one is_byte kind.LineSpacing n h
-leads kind.DefaultSpacing h = refl
-leads (kind.FeedLines n) h = walk-one is_byte kind.FeedLines n h
-leads (kind.FeedUnits n) h = walk-one is_byte kind.FeedUnits n h
-leads (kind.Pulse p) h = leads_pulse p.0 p.1 p.2 h
-leads (kind.Size n) h = walk-one is_size kind.Size n h
-leads (kind.BarHeight n) h = walk-one is_bar_height kind.BarHeight n h
-leads (kind.BarWidth n) h = walk-one is_bar_width kind.BarWidth n h
-leads (kind.HriPlace n) h = walk-one is_one_of_four kind.HriPlace n h
-leads (kind.HriFont n) h = walk-one is_one_of_two kind.HriFont n h
-leads (kind.Bars bars) h = leads_barcode bars.form bars.symbology bars.content h
-leads (kind.Raster r) h = leads_raster r.scale r.width r.height r.dots h
-leads (kind.QrModel n) h = leads_model n h
-leads (kind.QrSize n) h = walk-one is_qr_size kind.QrSize n h
-leads (kind.QrLevel n) h = walk-one is_qr_level kind.QrLevel n h
-leads (kind.QrStore stored) h = leads_store stored h
-leads kind.QrPrint h = refl
+leads (kind.Char b) h = leads_character b h
+leads kind.LineFeed h = form (LF ∷ []) [] refl
+leads kind.Return h = form (CR ∷ []) [] refl
+leads kind.Init h = form (ESC ∷ 0x40 ∷ []) [] refl
+leads (kind.Set s) h = leads_setting s.0 s.1 h
+leads (kind.FeedLines n) h = form (ESC ∷ 0x64 ∷ []) (n ∷ []) refl ∙ walk-one is_byte kind.FeedLines n h
+leads (kind.FeedUnits n) h = form (ESC ∷ 0x4A ∷ []) (n ∷ []) refl ∙ walk-one is_byte kind.FeedUnits n h
+leads (kind.Pulse p) h = form (ESC ∷ 0x70 ∷ []) (p.0 ∷ p.1 ∷ p.2 ∷ []) refl ∙ leads_pulse p.0 p.1 p.2 h
+leads (kind.Bars bars) h = form (GS ∷ 0x6B ∷ []) _ refl ∙ leads_barcode bars.form bars.symbology bars.content h
+leads (kind.Raster r) h = form (GS ∷ 0x76 ∷ []) _ refl ∙ leads_raster r.scale r.width r.height r.dots h
+leads (kind.QrModel n) h = form (GS ∷ 0x28 ∷ 0x6B ∷ []) (0x04 ∷ 0x00 ∷ 0x31 ∷ 0x41 ∷ n ∷ 0x00 ∷ []) refl ∙ leads_model n h
+leads (kind.QrSize n) h = form (GS ∷ 0x28 ∷ 0x6B ∷ []) (0x03 ∷ 0x00 ∷ 0x31 ∷ 0x43 ∷ n ∷ []) refl ∙ walk-one is_qr_size kind.QrSize n h
+leads (kind.QrLevel n) h = form (GS ∷ 0x28 ∷ 0x6B ∷ []) (0x03 ∷ 0x00 ∷ 0x31 ∷ 0x45 ∷ n ∷ []) refl ∙ walk-one is_qr_level kind.QrLevel n h
+leads (kind.QrStore stored) h = form (GS ∷ 0x28 ∷ 0x6B ∷ []) _ refl ∙ leads_store stored h
+leads kind.QrPrint h = form (GS ∷ 0x28 ∷ 0x6B ∷ []) (0x03 ∷ 0x00 ∷ 0x31 ∷ 0x51 ∷ 0x30 ∷ []) refl
 leads (kind.Cut c) h =
-    ap (walk (cut c.0)) (append-nil (option_to_list c.1 ++ []) ∙ append-nil (option_to_list c.1)) ∙ leads_cut c.0 c.1 h
-leads (kind.AutomaticStatus n) h = walk-one is_byte kind.AutomaticStatus n h
-leads (kind.Status n) h = walk-one is_status_kind kind.Status n h
-leads (kind.Mark id) h = ap (walk (counted 4 (λ _. is_mark_byte) kind.Mark [])) (append-nil (id ++ []) ∙ append-nil id) ∙ leads_mark id h
+    form (GS ∷ 0x56 ∷ []) _ refl
+    ∙ ap (walk (cut c.0)) (append-nil (option_to_list c.1 ++ []) ∙ append-nil (option_to_list c.1)) ∙ leads_cut c.0 c.1 h
+leads (kind.AutomaticStatus n) h = form (GS ∷ 0x61 ∷ []) (n ∷ []) refl ∙ walk-one is_byte kind.AutomaticStatus n h
+leads (kind.Status n) h = form (DLE ∷ EOT ∷ []) (n ∷ []) refl ∙ walk-one is_status_kind kind.Status n h
+leads (kind.Mark id) h =
+    form (GS ∷ 0x28 ∷ 0x48 ∷ []) _ refl
+    ∙ ap (walk (counted 4 (λ _. is_mark_byte) kind.Mark [])) (append-nil (id ++ []) ∙ append-nil id) ∙ leads_mark id h
+
+-- ## The tree is good
 
 good_cut : (m : ℕ) → Good (GS ∷ 0x56 ∷ m ∷ []) (cut m)
 good_cut m =
@@ -112,9 +162,6 @@ good_mark =
     subst (λ v. Spells (kind.Mark id) (GS ∷ 0x28 ∷ 0x48 ∷ 0x06 ∷ 0x00 ∷ 0x30 ∷ 0x30 ∷ v)) (append-nil (id ++ []) ∙ append-nil id)
     (at_row (kind.Mark id) (is_id id long (sym (all_from_all 0 is_mark_byte id) ∙ all)))))
 
-good_after_bracket : (b : ℕ) → Good (GS ∷ 0x28 ∷ b ∷ []) (branch after_bracket none b)
-good_after_bracket = good_branch (GS ∷ 0x28 ∷ []) after_bracket none (good_mark, (good_qr, tt)) (λ _. tt)
-
 good_pulse : Good (ESC ∷ 0x70 ∷ []) pulse
 good_pulse =
     good_passing (ESC ∷ 0x70 ∷ []) is_one_of_two _ 0 refl tt (λ m pin.
@@ -122,29 +169,37 @@ good_pulse =
     good_one (ESC ∷ 0x70 ∷ m ∷ on ∷ []) is_byte (λ off. kind.Pulse (m, on, off)) 0 refl
     (λ off second. at_row (kind.Pulse (m, on, off)) (both _ _ (both _ _ pin first) second))))
 
-good_after_esc : (b : ℕ) → Good (ESC ∷ b ∷ []) (branch after_esc none b)
-good_after_esc =
-    good_branch (ESC ∷ []) after_esc none (good_one (ESC ∷ 0x21 ∷ []) is_byte kind.Mode 0 refl (λ n h. at_row (kind.Mode n) h), (good_one (ESC ∷ 0x2D ∷ []) is_one_of_three kind.Underline 0 refl (λ n h. at_row (kind.Underline n) h), (at_row kind.DefaultSpacing refl, (good_one (ESC ∷ 0x33 ∷ []) is_byte kind.LineSpacing 0 refl (λ n h. at_row (kind.LineSpacing n) h), (at_row kind.Init refl, (good_one (ESC ∷ 0x45 ∷ []) is_byte kind.Emphasis 0 refl (λ n h. at_row (kind.Emphasis n) h), (good_one (ESC ∷ 0x47 ∷ []) is_byte kind.DoubleStrike 0 refl (λ n h. at_row (kind.DoubleStrike n) h), (good_one (ESC ∷ 0x4A ∷ []) is_byte kind.FeedUnits 0 refl (λ n h. at_row (kind.FeedUnits n) h), (good_one (ESC ∷ 0x4D ∷ []) is_one_of_two kind.Font 0 refl (λ n h. at_row (kind.Font n) h), (good_one (ESC ∷ 0x52 ∷ []) is_character_set kind.CharacterSet 0 refl (λ n h. at_row (kind.CharacterSet n) h), (good_one (ESC ∷ 0x61 ∷ []) is_one_of_three kind.Align 0 refl (λ n h. at_row (kind.Align n) h), (good_one (ESC ∷ 0x64 ∷ []) is_byte kind.FeedLines 0 refl (λ n h. at_row (kind.FeedLines n) h), (good_pulse, (good_one (ESC ∷ 0x74 ∷ []) is_byte kind.Table 0 refl (λ n h. at_row (kind.Table n) h), (good_one (ESC ∷ 0x7B ∷ []) is_byte kind.UpsideDown 0 refl (λ n h. at_row (kind.UpsideDown n) h), tt)))))))))))))))
-    (λ _. tt)
+-- Each form is live and good at its prefix.
+good_forms : AllByRecursion (λ f. IsLive f.1 × Good f.0 f.1) forms
+good_forms = (
+  (tt, at_row kind.LineFeed refl),
+  ((tt, at_row kind.Return refl),
+  ((tt, good_one (DLE ∷ EOT ∷ []) is_status_kind kind.Status 1 refl (λ n h. at_row (kind.Status n) h)),
+  ((tt, at_row kind.Init refl),
+  ((tt, good_one (ESC ∷ 0x4A ∷ []) is_byte kind.FeedUnits 0 refl (λ n h. at_row (kind.FeedUnits n) h)),
+  ((tt, good_one (ESC ∷ 0x64 ∷ []) is_byte kind.FeedLines 0 refl (λ n h. at_row (kind.FeedLines n) h)),
+  ((tt, good_pulse),
+  ((tt, good_mark),
+  ((tt, good_qr),
+  ((tt, ((0, tt), good_cut)),
+  ((tt, good_one (GS ∷ 0x61 ∷ []) is_byte kind.AutomaticStatus 0 refl (λ n h. at_row (kind.AutomaticStatus n) h)),
+  ((tt, ((65, tt), good_barcodes)),
+  ((tt, good_raster),
+  tt)))))))))))),
+)
 
-good_after_gs : (b : ℕ) → Good (GS ∷ b ∷ []) (branch after_gs none b)
-good_after_gs =
-    good_branch (GS ∷ []) after_gs none (good_one (GS ∷ 0x21 ∷ []) is_size kind.Size 0 refl (λ n h. at_row (kind.Size n) h), (((0x48, tt), good_after_bracket), (good_one (GS ∷ 0x42 ∷ []) is_byte kind.Reverse 0 refl (λ n h. at_row (kind.Reverse n) h), (good_one (GS ∷ 0x48 ∷ []) is_one_of_four kind.HriPlace 0 refl (λ n h. at_row (kind.HriPlace n) h), (((0, tt), good_cut), (good_one (GS ∷ 0x61 ∷ []) is_byte kind.AutomaticStatus 0 refl (λ n h. at_row (kind.AutomaticStatus n) h), (good_one (GS ∷ 0x62 ∷ []) is_byte kind.Smoothing 0 refl (λ n h. at_row (kind.Smoothing n) h), (good_one (GS ∷ 0x66 ∷ []) is_one_of_two kind.HriFont 0 refl (λ n h. at_row (kind.HriFont n) h), (good_one (GS ∷ 0x68 ∷ []) is_bar_height kind.BarHeight 1 refl (λ n h. at_row (kind.BarHeight n) h), (((65, tt), good_barcodes), (good_raster, (good_one (GS ∷ 0x77 ∷ []) is_bar_width kind.BarWidth 2 refl (λ n h. at_row (kind.BarWidth n) h), tt))))))))))))
-    (λ _. tt)
+spelled_so : (which : SettingKind) (r : Row) (p : Option ℕ) → row_for table which ≡ r → fits r.values p ≡ true → Spells (kind.Set (which, p)) (row_prefix r ++ option_to_list p)
+spelled_so which r p e h = record {
+  in_range = ap (λ s. fits s.values p) e ∙ h;
+  in_table = ap (λ s. row_prefix s ++ option_to_list p) (sym e) ∙ sym (spelled_setting which p);
+}
 
-good_after_dle : (b : ℕ) → Good (DLE ∷ b ∷ []) (branch after_dle none b)
-good_after_dle =
-    good_branch (DLE ∷ []) after_dle none
-    (good_one (DLE ∷ EOT ∷ []) is_status_kind kind.Status 1 refl (λ n h. at_row (kind.Status n) h), tt)
-    (λ _. tt)
+spells_settings : (i : ℕ) → i < length table → SpellsSettings (row_at table i)
+spells_settings i inside p h = spelled_so (row_at table i).kind (row_at table i) p (own_row table i is_table inside) h
 
-good_character : (b : ℕ) → Good (b ∷ []) (character b)
-good_character b = good_choice _ _ _ (is_character b) (λ h. at_row (kind.Char b) h) (λ _. tt)
+good_characters : Good [] (node character)
+good_characters = ((0x20, tt), λ b. good_choice (b ∷ []) (leaf (kind.Char b)) dead (is_character b) (λ h. at_row (kind.Char b) h) (λ _. tt))
 
 pub good : Good [] grammar
-good = (
-  (LF, tt),
-  good_branch [] first character
-      (at_row kind.LineFeed refl, (at_row kind.Return refl, (((EOT, tt), good_after_dle), (((0x40, tt), good_after_esc), (((0x56, tt), good_after_gs), tt)))))
-      good_character,
-)
+unfolding grammar
+good = all_good forms (settings table (node character)) good_forms (good_settings table (node character) spells_settings good_characters)

@@ -1,33 +1,36 @@
 -- Worked rows of the profiles, computed from the definitions alone.
-use Rattle.std.proofs.Common.{◌≡◌, ℕ, zero, suc, List, [], ◌∷◌, ◌++◌, refl, true, false}
-use Rattle.std.specs.Prelude.{filter}
+use Rattle.std.proofs.Common.{◌≡◌, List, [], ◌∷◌, refl, true, false, map, Some}
+use Rattle.std.specs.Prelude.{filter, nat_lt}
+use Rattle.escpos_command.specs.declared.bytes.TheConstants.{ESC, GS}
 use Rattle.escpos_command.specs.declared.command.Command.TheVariants as kind
+use Rattle.escpos_command.specs.declared.setting.SettingKind.TheVariants as sets
+use Rattle.escpos_command.specs.SettingTable.{table, row_prefix}
 use Rattle.escpos_command.specs.ThirdProfile.{in_third_profile}
-use Rattle.escpos_command.specs.SecondProfile.{in_second_profile, is_new_after_esc, is_new_after_gs}
+use Rattle.escpos_command.specs.SecondProfile.{in_second_profile}
 
-numbers : ℕ → List ℕ
-numbers zero = []
-numbers (suc n) = numbers n ++ n ∷ []
+-- These settings came after the second profile, and none after the third.
+letters_since_second : map row_prefix (filter (λ r. nat_lt 2 r.since) table)
+    ≡ (ESC ∷ 0x47 ∷ []) ∷ (ESC ∷ 0x52 ∷ []) ∷ (GS ∷ 0x42 ∷ []) ∷ (GS ∷ 0x62 ∷ []) ∷ (ESC ∷ 0x7B ∷ []) ∷ (ESC ∷ 0x33 ∷ []) ∷ (ESC ∷ 0x32 ∷ []) ∷ []
+unfolding table
+letters_since_second = refl
 
--- Of all bytes these letters are new, and no other.
-letters_after_esc : filter is_new_after_esc (numbers 256) ≡ 0x32 ∷ 0x33 ∷ 0x47 ∷ 0x52 ∷ 0x7B ∷ []
-unfolding numbers
-letters_after_esc = refl
-
-letters_after_gs : filter is_new_after_gs (numbers 256) ≡ 0x42 ∷ 0x61 ∷ 0x62 ∷ []
-unfolding numbers
-letters_after_gs = refl
+letters_since_third : map row_prefix (filter (λ r. nat_lt 3 r.since) table) ≡ []
+unfolding table
+letters_since_third = refl
 
 -- The second profile had no smoothing, and underlines.
-no_smoothing : in_second_profile (kind.Smoothing 0) ≡ false
+no_smoothing : in_second_profile (kind.Set (sets.Smoothing, Some 0)) ≡ false
+unfolding table
 no_smoothing = refl
 
 -- The third profile had it, and no automatic status.
-smoothing : in_third_profile (kind.Smoothing 0) ≡ true
+smoothing : in_third_profile (kind.Set (sets.Smoothing, Some 0)) ≡ true
+unfolding table
 smoothing = refl
 
 no_automatic_status : in_third_profile (kind.AutomaticStatus 0) ≡ false
 no_automatic_status = refl
 
-underlines : in_second_profile (kind.Underline 1) ≡ true
+underlines : in_second_profile (kind.Set (sets.Underline, Some 1)) ≡ true
+unfolding table
 underlines = refl

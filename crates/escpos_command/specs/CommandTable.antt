@@ -1,4 +1,5 @@
--- The command table, with one line for each kind of command.
+-- The command table, with one line for each kind of command; the commands that only set something have one line in all, and a
+-- row each in the table of settings.
 --
 -- The bytes are those of the ESC/POS Command Reference, with the parameters as sent in their places.
 use Rattle.std.specs.Prelude.{ℕ, ◌≡◌, ◌+◌, ◌/◌, ◌%◌, Bool, true, List, [], ◌∷◌, ◌++◌, length, IsTrue, option_to_list}
@@ -8,10 +9,11 @@ use Rattle.escpos_command.specs.declared.command.Command.{Command}
 use Rattle.escpos_command.specs.declared.command.Command.TheVariants as kind
 use Rattle.escpos_command.specs.declared.bars.Form.{Form}
 use Rattle.escpos_command.specs.declared.bars.Form.TheVariants.{A, B}
-use Rattle.escpos_command.specs.Parameters.{is_byte, is_character, is_character_set, is_one_of_two, is_one_of_three, is_one_of_four, is_size, is_bar_height, is_bar_width, is_status_kind, is_cut, is_pulse, is_qr_model, is_qr_size, is_qr_level, is_mark_id}
+use Rattle.escpos_command.specs.Parameters.{is_byte, is_character, is_status_kind, is_cut, is_pulse, is_qr_model, is_qr_size, is_qr_level, is_mark_id}
 use Rattle.escpos_command.specs.Barcodes.{Barcode, barcode_mode, is_barcode}
 use Rattle.escpos_command.specs.QrCodes.{is_qr_data}
 use Rattle.escpos_command.specs.Rasters.{Picture, is_raster}
+use Rattle.escpos_command.specs.SettingTable.{table, row_for, row_prefix, is_setting}
 
 -- A line of the table: the fixed bytes, the parameter bytes that follow them, the content of a barcode, the dots of a raster or
 -- the data of a QR code, a suffix byte, and whether parameters and content are in range.
@@ -81,27 +83,10 @@ entry_of (kind.Char b) = entry [] (b ∷ []) (is_character b)  -- the character 
 entry_of kind.LineFeed = entry (LF ∷ []) [] true  -- LF
 entry_of kind.Return = entry (CR ∷ []) [] true  -- CR
 entry_of kind.Init = entry (ESC ∷ 0x40 ∷ []) [] true  -- ESC @
-entry_of (kind.Mode n) = entry (ESC ∷ 0x21 ∷ []) (n ∷ []) (is_byte n)  -- ESC !
-entry_of (kind.Emphasis n) = entry (ESC ∷ 0x45 ∷ []) (n ∷ []) (is_byte n)  -- ESC E
-entry_of (kind.DoubleStrike n) = entry (ESC ∷ 0x47 ∷ []) (n ∷ []) (is_byte n)  -- ESC G
-entry_of (kind.Underline n) = entry (ESC ∷ 0x2D ∷ []) (n ∷ []) (is_one_of_three n)  -- ESC -
-entry_of (kind.Font n) = entry (ESC ∷ 0x4D ∷ []) (n ∷ []) (is_one_of_two n)  -- ESC M
-entry_of (kind.Table n) = entry (ESC ∷ 0x74 ∷ []) (n ∷ []) (is_byte n)  -- ESC t
-entry_of (kind.CharacterSet n) = entry (ESC ∷ 0x52 ∷ []) (n ∷ []) (is_character_set n)  -- ESC R
-entry_of (kind.Reverse n) = entry (GS ∷ 0x42 ∷ []) (n ∷ []) (is_byte n)  -- GS B
-entry_of (kind.Smoothing n) = entry (GS ∷ 0x62 ∷ []) (n ∷ []) (is_byte n)  -- GS b
-entry_of (kind.UpsideDown n) = entry (ESC ∷ 0x7B ∷ []) (n ∷ []) (is_byte n)  -- ESC {
-entry_of (kind.Align n) = entry (ESC ∷ 0x61 ∷ []) (n ∷ []) (is_one_of_three n)  -- ESC a
-entry_of (kind.LineSpacing n) = entry (ESC ∷ 0x33 ∷ []) (n ∷ []) (is_byte n)  -- ESC 3
-entry_of kind.DefaultSpacing = entry (ESC ∷ 0x32 ∷ []) [] true  -- ESC 2
+entry_of (kind.Set s) = entry (row_prefix (row_for table s.0)) (option_to_list s.1) (is_setting table s)  -- a row of the table of settings
 entry_of (kind.FeedLines n) = entry (ESC ∷ 0x64 ∷ []) (n ∷ []) (is_byte n)  -- ESC d
 entry_of (kind.FeedUnits n) = entry (ESC ∷ 0x4A ∷ []) (n ∷ []) (is_byte n)  -- ESC J
 entry_of (kind.Pulse pulse) = entry (ESC ∷ 0x70 ∷ []) (pulse.0 ∷ pulse.1 ∷ pulse.2 ∷ []) (is_pulse pulse)  -- ESC p
-entry_of (kind.Size n) = entry (GS ∷ 0x21 ∷ []) (n ∷ []) (is_size n)  -- GS !
-entry_of (kind.BarHeight n) = entry (GS ∷ 0x68 ∷ []) (n ∷ []) (is_bar_height n)  -- GS h
-entry_of (kind.BarWidth n) = entry (GS ∷ 0x77 ∷ []) (n ∷ []) (is_bar_width n)  -- GS w
-entry_of (kind.HriPlace n) = entry (GS ∷ 0x48 ∷ []) (n ∷ []) (is_one_of_four n)  -- GS H
-entry_of (kind.HriFont n) = entry (GS ∷ 0x66 ∷ []) (n ∷ []) (is_one_of_two n)  -- GS f
 entry_of (kind.Bars bars) = barcode_entry bars  -- GS k, form A or B
 entry_of (kind.Raster raster) = raster_entry raster  -- GS v 0
 entry_of (kind.QrModel n) = qr_model_entry n  -- GS ( k, function 65

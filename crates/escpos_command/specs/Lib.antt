@@ -5,6 +5,7 @@ pub mod Barcodes
 pub mod Rasters
 pub mod QrCodes
 pub mod Digits
+pub mod SettingTable
 pub mod CommandTable
 pub mod Places
 pub mod Grammar

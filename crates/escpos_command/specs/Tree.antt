@@ -8,10 +8,12 @@ use Rattle.escpos_command.specs.declared.command.Command.TheVariants as kind
 use Rattle.escpos_command.specs.declared.bars.Form.TheVariants.{A, B}
 use Rattle.escpos_command.specs.declared.bars.Symbology.{Symbology}
 use Rattle.escpos_command.specs.declared.bars.Symbology.TheVariants.{UpcA, Ean13, Ean8, Code39, Itf, Codabar, Code128}
-use Rattle.escpos_command.specs.Parameters.{is_character, is_character_set, is_one_of_two, is_one_of_three, is_one_of_four, is_size, is_bar_height, is_bar_width, is_status_kind, is_feed_cut_mode, is_byte, is_mark_byte, is_qr_model, is_qr_size, is_qr_level}
+use Rattle.escpos_command.specs.Parameters.{is_character, is_one_of_two, is_one_of_four, is_status_kind, is_feed_cut_mode, is_byte, is_mark_byte, is_qr_model, is_qr_size, is_qr_level}
 use Rattle.escpos_command.specs.Barcodes.{barcode, has_length, allows, is_digit, is_code39, is_codabar, is_codabar_end}
 use Rattle.escpos_command.specs.QrCodes.{is_qr_length}
 use Rattle.escpos_command.specs.Rasters.{picture, is_width, is_height}
+use Rattle.escpos_command.specs.SettingTable.{table, may_follow, is_nothing, row_prefix}
+use Rattle.escpos_command.specs.declared.setting.Row.{Row}
 
 -- Where the bytes so far lead: to no command, to a whole one, or to a choice by the next byte.
 pub data Tree : Type 0 where
@@ -26,6 +28,22 @@ walk (leaf c) [] = leaf c
 walk (leaf c) (b ∷ bs) = dead
 walk (node next) [] = node next
 walk (node next) (b ∷ bs) = walk (next b) bs
+
+-- The tree below a byte.
+abbrev pub below : Tree → ℕ → Tree
+below dead b = dead
+below (leaf c) b = dead
+below (node next) b = next b
+
+-- These bytes lead to a tree, and all others to where another tree leads them.
+unfoldable pub planted : List ℕ → Tree → Tree → Tree
+planted [] t others = t
+planted (b ∷ bs) t others = node (λ x. if x == b then planted bs t (below others x) else below others x)
+
+-- The same for each of these, the first before the others.
+unfoldable pub all_planted : List (List ℕ × Tree) → Tree → Tree
+all_planted [] others = others
+all_planted (form ∷ forms) others = planted form.0 form.1 (all_planted forms others)
 
 -- These bytes, then a tree.
 abbrev pub these : List ℕ → Tree → Tree
@@ -79,26 +97,6 @@ one test make = passing test (λ n. leaf (make n))
 abbrev pub pulse : Tree
 pulse = passing is_one_of_two (λ m. passing is_byte (λ on. one is_byte (λ off. kind.Pulse (m, on, off))))
 
--- The commands after ESC, by their letter.
-abbrev pub after_esc : List (ℕ × Tree)
-after_esc =
-    (0x21, one is_byte kind.Mode)
-    ∷ (0x2D, one is_one_of_three kind.Underline)
-    ∷ (0x32, leaf kind.DefaultSpacing)
-    ∷ (0x33, one is_byte kind.LineSpacing)
-    ∷ (0x40, leaf kind.Init)
-    ∷ (0x45, one is_byte kind.Emphasis)
-    ∷ (0x47, one is_byte kind.DoubleStrike)
-    ∷ (0x4A, one is_byte kind.FeedUnits)
-    ∷ (0x4D, one is_one_of_two kind.Font)
-    ∷ (0x52, one is_character_set kind.CharacterSet)
-    ∷ (0x61, one is_one_of_three kind.Align)
-    ∷ (0x64, one is_byte kind.FeedLines)
-    ∷ (0x70, pulse)
-    ∷ (0x74, one is_byte kind.Table)
-    ∷ (0x7B, one is_byte kind.UpsideDown)
-    ∷ []
-
 -- GS V takes a mode alone, or a mode and a feed.
 abbrev pub cut : ℕ → Tree
 cut m =
@@ -143,10 +141,6 @@ qr_high low = passing (is_qr_length low) (λ high. qr_code (low + 256 * high))
 -- GS ( k: the length, with its low byte first, cn and fn.
 abbrev pub qr : Tree
 qr = passing is_byte qr_high
-
--- The commands after GS (, by their letter.
-abbrev pub after_bracket : List (ℕ × Tree)
-after_bracket = (0x48, mark) ∷ (0x6B, qr) ∷ []
 
 -- ## Barcodes
 
@@ -210,42 +204,38 @@ after_scale scale = passing is_width (λ width. these (0x00 ∷ []) (after_width
 abbrev pub raster : Tree
 raster = these (0x30 ∷ []) (passing is_one_of_four after_scale)
 
--- The commands after GS, by their letter.
-abbrev pub after_gs : List (ℕ × Tree)
-after_gs =
-    (0x21, one is_size kind.Size)
-    ∷ (0x28, node (branch after_bracket none))
-    ∷ (0x42, one is_byte kind.Reverse)
-    ∷ (0x48, one is_one_of_four kind.HriPlace)
-    ∷ (0x56, node cut)
-    ∷ (0x61, one is_byte kind.AutomaticStatus)
-    ∷ (0x62, one is_byte kind.Smoothing)
-    ∷ (0x66, one is_one_of_two kind.HriFont)
-    ∷ (0x68, one is_bar_height kind.BarHeight)
-    ∷ (0x6B, node (branch barcodes none))
-    ∷ (0x76, raster)
-    ∷ (0x77, one is_bar_width kind.BarWidth)
+-- ## All commands
+
+-- The commands of a form of their own: their prefix, and the tree after it.
+abbrev pub forms : List (List ℕ × Tree)
+forms =
+    (LF ∷ [], leaf kind.LineFeed)
+    ∷ (CR ∷ [], leaf kind.Return)
+    ∷ (DLE ∷ EOT ∷ [], one is_status_kind kind.Status)
+    ∷ (ESC ∷ 0x40 ∷ [], leaf kind.Init)
+    ∷ (ESC ∷ 0x4A ∷ [], one is_byte kind.FeedUnits)
+    ∷ (ESC ∷ 0x64 ∷ [], one is_byte kind.FeedLines)
+    ∷ (ESC ∷ 0x70 ∷ [], pulse)
+    ∷ (GS ∷ 0x28 ∷ 0x48 ∷ [], mark)
+    ∷ (GS ∷ 0x28 ∷ 0x6B ∷ [], qr)
+    ∷ (GS ∷ 0x56 ∷ [], node cut)
+    ∷ (GS ∷ 0x61 ∷ [], one is_byte kind.AutomaticStatus)
+    ∷ (GS ∷ 0x6B ∷ [], node (branch barcodes none))
+    ∷ (GS ∷ 0x76 ∷ [], raster)
     ∷ []
 
--- The commands after DLE.
-abbrev pub after_dle : List (ℕ × Tree)
-after_dle =
-    (EOT, one is_status_kind kind.Status)
-    ∷ []
+-- What follows the prefix of a setting.
+abbrev pub setting_tree : Row → Tree
+setting_tree r = if is_nothing r.values then leaf (kind.Set (r.kind, None)) else one (may_follow r.values) (λ n. kind.Set (r.kind, Some n))
+
+-- The settings of a table, and elsewhere another tree.
+unfoldable pub settings : List Row → Tree → Tree
+settings [] others = others
+settings (r ∷ rows) others = planted (row_prefix r) (setting_tree r) (settings rows others)
 
 -- A character is its own command.
 abbrev pub character : ℕ → Tree
 character b = if is_character b then leaf (kind.Char b) else dead
 
--- All commands, by their first byte.
-abbrev pub first : List (ℕ × Tree)
-first =
-    (LF, leaf kind.LineFeed)
-    ∷ (CR, leaf kind.Return)
-    ∷ (DLE, node (branch after_dle none))
-    ∷ (ESC, node (branch after_esc none))
-    ∷ (GS, node (branch after_gs none))
-    ∷ []
-
-abbrev pub grammar : Tree
-grammar = node (branch first character)
+unfoldable pub grammar : Tree
+grammar = all_planted forms (settings table (node character))

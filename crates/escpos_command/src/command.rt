@@ -1,8 +1,9 @@
 //! The commands of the profile, and how each is spelled.
 //!
-//! A kind of command is a variant here with its line in `Command::parts`, a line of the command table
-//! (`specs/CommandTable.antt`), a branch of the tree of bytes (`specs/Tree.antt`) and a case of the proofs over that tree;
-//! no proof is about a pair of kinds. docs/ARCHITECTURE.md says how to find all places.
+//! A command that only sets something is a row of the table in `setting`. Any other kind of command is a variant here with its
+//! line in `Command::parts`, a line of the command table (`specs/CommandTable.antt`), a form of the tree of bytes
+//! (`specs/Tree.antt`) and a case of the proofs over that tree; no proof is about a pair of kinds. docs/ARCHITECTURE.md says how
+//! to find all places.
 
 ghost use Rattle.std.specs.Prelude.{◌≡◌, ◌≤◌, ◌+◌, [], ◌∷◌, length};
 ghost use Rattle.escpos_command.specs.CommandTable.{entry_of, barcode_entry, raster_entry, qr_model_entry, qr_store_entry, IsCommand};
@@ -12,12 +13,11 @@ use crate::bars::{Bars, Form};
 use crate::bytes::{CR, DLE, EOT, ESC, GS, LF};
 use crate::mark::MarkId;
 use crate::parameter::{
-    Align, BarHeight, BarWidth, Character, CharacterSet, Cut, Emphasis, FeedLines, FeedUnits, Font,
-    HriFont, HriPlace, LineSpacing, Mode, Pulse, QrLevel, QrModel, QrSize, Reporting, Size,
-    StatusKind, Switch, Table, Underline,
+    Character, Cut, FeedLines, FeedUnits, Pulse, QrLevel, QrModel, QrSize, Reporting, StatusKind,
 };
 use crate::qr::QrData;
 use crate::raster::Raster;
+use crate::setting::Setting;
 use arrayvec::ArrayVec;
 
 /// One command of the profile. Each parameter keeps its byte as sent, so a command has one spelling.
@@ -31,48 +31,14 @@ pub enum Command {
     Return,
     /// ESC @: drops the line and restores the power-on styles. (Reference: ESC @.)
     Init,
-    /// ESC !: sets font, emphasis, size and underline at once. (Reference: ESC !.)
-    Mode(Mode),
-    /// ESC E: sets emphasis. (Reference: ESC E.)
-    Emphasis(Emphasis),
-    /// ESC G: sets double strike. (Reference: ESC G.)
-    DoubleStrike(Switch),
-    /// ESC -: sets the underline. (Reference: ESC -.)
-    Underline(Underline),
-    /// ESC M: sets the font. (Reference: ESC M.)
-    Font(Font),
-    /// ESC t: sets the character code table. (Reference: ESC t.)
-    Table(Table),
-    /// ESC R: sets the international character set. (Reference: ESC R.)
-    CharacterSet(CharacterSet),
-    /// GS B: sets white on black. (Reference: GS B.)
-    Reverse(Switch),
-    /// GS b: sets smoothing, which has no effect. (Reference: GS b.)
-    Smoothing(Switch),
-    /// ESC {: sets whether lines are printed upside down. (Reference: ESC {.)
-    UpsideDown(Switch),
-    /// ESC a: sets the alignment of lines. (Reference: ESC a.)
-    Align(Align),
-    /// ESC 3: sets the line spacing. (Reference: ESC 3.)
-    LineSpacing(LineSpacing),
-    /// ESC 2: sets the default line spacing. (Reference: ESC 2.)
-    DefaultSpacing,
+    /// One of the commands that only set something. (Reference: those that `SettingKind` names.)
+    Set(Setting),
     /// ESC d: prints the line and feeds some lines. (Reference: ESC d.)
     FeedLines(FeedLines),
     /// ESC J: prints the line and feeds some motion units. (Reference: ESC J.)
     FeedUnits(FeedUnits),
     /// ESC p: sends a pulse to the connector of the cash drawer. (Reference: ESC p.)
     Pulse(Pulse),
-    /// GS !: sets the size of characters. (Reference: GS !.)
-    Size(Size),
-    /// GS h: sets the height of barcodes. (Reference: GS h.)
-    BarHeight(BarHeight),
-    /// GS w: sets the module width of barcodes. (Reference: GS w.)
-    BarWidth(BarWidth),
-    /// GS H: sets where a barcode's human readable interpretation stands. (Reference: GS H.)
-    HriPlace(HriPlace),
-    /// GS f: sets the font of that interpretation. (Reference: GS f.)
-    HriFont(HriFont),
     /// GS k: prints a barcode. (Reference: GS k.)
     Bars(Bars),
     /// GS v 0: prints a raster. (Reference: GS v 0.)
@@ -135,29 +101,12 @@ impl Command {
             Command::LineFeed => alone(&[LF]),
             Command::Return => alone(&[CR]),
             Command::Init => alone(&[ESC, b'@']),
-            Command::Mode(mode) => with(&[ESC, b'!'], mode.byte()),
-            Command::Emphasis(emphasis) => with(&[ESC, b'E'], emphasis.byte()),
-            Command::DoubleStrike(switch) => with(&[ESC, b'G'], switch.byte()),
-            Command::Underline(underline) => with(&[ESC, b'-'], underline.byte()),
-            Command::Font(font) => with(&[ESC, b'M'], font.byte()),
-            Command::Table(table) => with(&[ESC, b't'], table.byte()),
-            Command::CharacterSet(set) => with(&[ESC, b'R'], set.byte()),
-            Command::Reverse(switch) => with(&[GS, b'B'], switch.byte()),
-            Command::Smoothing(switch) => with(&[GS, b'b'], switch.byte()),
-            Command::UpsideDown(switch) => with(&[ESC, b'{'], switch.byte()),
-            Command::Align(align) => with(&[ESC, b'a'], align.byte()),
-            Command::LineSpacing(spacing) => with(&[ESC, b'3'], spacing.byte()),
-            Command::DefaultSpacing => alone(&[ESC, b'2']),
+            Command::Set(setting) => set(*setting),
             Command::FeedLines(feed) => with(&[ESC, b'd'], feed.byte()),
             Command::FeedUnits(feed) => with(&[ESC, b'J'], feed.byte()),
             Command::Pulse(pulse) => {
                 with_all(&[ESC, b'p'], &[pulse.pin(), pulse.on(), pulse.off()])
             }
-            Command::Size(size) => with(&[GS, b'!'], size.byte()),
-            Command::BarHeight(height) => with(&[GS, b'h'], height.byte()),
-            Command::BarWidth(width) => with(&[GS, b'w'], width.byte()),
-            Command::HriPlace(place) => with(&[GS, b'H'], place.byte()),
-            Command::HriFont(font) => with(&[GS, b'f'], font.byte()),
             Command::Bars(bars) => barcode(bars),
             Command::Raster(raster) => picture(raster),
             Command::QrModel(model) => qr_model(*model),
@@ -211,6 +160,21 @@ fn with_all(prefix: &'static [u8], bytes: &[u8]) -> Parts<'static>
         parameters,
         content: &[],
         suffix: &[],
+    }
+}
+
+// The parts of a setting.
+fn set(setting: Setting) -> Parts<'static>
+    ensures prefix { result.prefix.now ≡ (entry_of (kind.Set setting)).prefix }
+    ensures parameters { result.parameters.items ≡ (entry_of (kind.Set setting)).parameters }
+    ensures content { result.content.now ≡ [] }
+    ensures suffix { result.suffix.now ≡ [] }
+    ensures in_range { IsCommand (kind.Set setting) }
+{
+    let prefix = setting.kind().prefix();
+    match setting.parameter() {
+        None => alone(prefix),
+        Some(parameter) => with(prefix, parameter),
     }
 }
 

@@ -11,7 +11,7 @@ ghost use Rattle.escpos_command.specs.Digits.{mark_count, mark_of};
 ghost use Rattle.escpos_command.specs.Tree.{Tree, dead, leaf, node, walk, grammar};
 ghost use Rattle.escpos_command.specs.Profiles.{ViableIn, ReadsIn, FaultAtIn, IsReadIn, IsRefusedIn};
 ghost use Rattle.escpos_command.specs.FirstProfile.{in_first_profile, IsNew};
-ghost use Rattle.escpos_command.specs.ThirdProfile.{in_third_profile, IsLetterOfStatus};
+ghost use Rattle.escpos_command.specs.ThirdProfile.{in_third_profile, IsNewSinceThird};
 ghost use Rattle.escpos_command.specs.SecondProfile.{in_second_profile, IsNewLetter};
 ghost use Rattle.escpos_command.specs.Marks.{IsMarkOrNone, marks};
 ghost use Rattle.escpos_command.specs.declared.bytes.TheConstants.{GS};
@@ -65,8 +65,7 @@ pub fn first_profile()
         FaultAtIn in_first_profile bs cs rest k why → FaultAt bs cs rest k why ⊎ IsNew rest (slice_index bs k) }
 {}
 
-/// The second profile, which had no double strike, white on black, lines upside down, smoothing, line spacing, character sets,
-/// QR codes and automatic status: it reads or refuses each byte list; what it read is read so by the whole table; and where it refused a byte, that byte
+/// The second profile, which had no QR codes, no automatic status and none of the settings that came later: it reads or refuses each byte list; what it read is read so by the whole table; and where it refused a byte, that byte
 /// is refused for the same reason, unless it is the letter of one of these, which is taken now and wasn't then.
 pub fn second_profile()
     ensures read_or_refused { (bs : List ℕ) → IsReadIn in_second_profile bs ⊎ IsRefusedIn in_second_profile bs }
@@ -77,15 +76,15 @@ pub fn second_profile()
         Viable (rest ++ b ∷ []) × (ViableIn in_second_profile (rest ++ b ∷ []) → ⊥) }
 {}
 
-/// The third profile, which had no automatic status: it reads or refuses each byte list; what it read is read so by the whole
-/// table; and where it refused a byte, that byte is refused for the same reason, unless it is the letter of GS a, which is taken
-/// now and wasn't then.
+/// The third profile, which had no automatic status and none of the settings that came later: it reads or refuses each byte list; what it read is read so by the whole
+/// table; and where it refused a byte, that byte is refused for the same reason, unless it is the letter of one of
+/// these, which is taken now and wasn't then.
 pub fn third_profile()
     ensures read_or_refused { (bs : List ℕ) → IsReadIn in_third_profile bs ⊎ IsRefusedIn in_third_profile bs }
     ensures read { (bs : List ℕ) (cs : List Command) (rest : List ℕ) → ReadsIn in_third_profile bs cs rest → Reads bs cs rest }
     ensures refused { (bs : List ℕ) (cs : List Command) (rest : List ℕ) (k : ℕ) (why : FaultReason) →
-        FaultAtIn in_third_profile bs cs rest k why → FaultAt bs cs rest k why ⊎ IsLetterOfStatus rest (slice_index bs k) }
-    ensures new { (rest : List ℕ) (b : ℕ) → IsLetterOfStatus rest b →
+        FaultAtIn in_third_profile bs cs rest k why → FaultAt bs cs rest k why ⊎ IsNewSinceThird rest (slice_index bs k) }
+    ensures new { (rest : List ℕ) (b : ℕ) → IsNewSinceThird rest b →
         Viable (rest ++ b ∷ []) × (ViableIn in_third_profile (rest ++ b ∷ []) → ⊥) }
 {}
 

@@ -1,6 +1,7 @@
 //! ESC/POS commands of the Kolatennis profile: values, spellings, and the laws that join them.
 //!
-//! `command` has the commands and `parameter` their parameters; `mark` has the ids of marks, `bars` barcodes, `raster`
+//! `command` has the commands, `setting` the table of those that only set something, and `parameter` the parameters of others;
+//! `mark` has the ids of marks, `bars` barcodes, `raster`
 //! rasters and `qr` the data of QR codes, whose bytes are a `content`. `bytes` has the control bytes, `chars` makes commands of a text. `spelling` gives
 //! the bytes of a command, and `writing` puts those of a list. `answer` has what a printer answers, `automatic_status` what it
 //! says unasked, and `fault` why a byte is refused. `line_width` has how wide a line is, which no command says.
@@ -23,6 +24,7 @@ mod mark;
 mod parameter;
 mod qr;
 mod raster;
+mod setting;
 mod spelling;
 mod writing;
 
@@ -37,11 +39,12 @@ pub use fault::FaultReason;
 pub use line_width::{LineWidth, MOST_LINE_DOTS, USUAL_LINE_DOTS};
 pub use mark::{MarkId, is_mark_byte};
 pub use parameter::{
-    Align, Alignment, BarHeight, BarWidth, Character, CharacterSet, Correction, Cut, Emphasis,
-    FeedLines, FeedUnits, Font, FontFace, HriFont, HriPlace, HriPosition, LineSpacing, Mode, Pulse,
-    QrLevel, QrModel, QrSize, Reporting, Scale, Size, StatusKind, Switch, Table, Underline,
+    Alignment, Character, Correction, Cut, FeedLines, FeedUnits, FontFace, HriPosition, Pulse,
+    QrLevel, QrModel, QrSize, Reporting, Scale, StatusKind, alignment_of, choice, face_of,
+    face_of_mode, has_bit, hri_position_of, magnified, size_height, size_width, underline_of_mode,
 };
 pub use qr::{MOST_QR_DATA, QrData};
 pub use raster::{HIGHEST, Raster, RasterFault, WIDEST, is_height, is_scale, is_width};
+pub use setting::{Setting, SettingKind};
 pub use spelling::LONGEST_SPELLING;
 pub use writing::write_commands;

@@ -5,16 +5,16 @@
 //! their own, has the module `mark`. A new parameter is a test in `specs/Parameters.antt`, a meaning in
 //! `specs/Meanings.antt` and a type here.
 
-mod barcode;
+mod character;
 mod choices;
 mod line;
 mod qr;
-mod switch;
-mod text;
 
-pub use barcode::{BarHeight, BarWidth, HriFont, HriPlace};
-pub use choices::{Alignment, Correction, FontFace, HriPosition, Scale, choice, has_bit, scale_of};
-pub use line::{Align, Cut, FeedLines, FeedUnits, LineSpacing, Pulse, Reporting, StatusKind};
+pub use character::Character;
+pub use choices::{
+    Alignment, Correction, FontFace, HriPosition, Scale, alignment_of, choice, face_of,
+    face_of_mode, has_bit, hri_position_of, magnified, scale_of, size_height, size_width,
+    underline_of_mode,
+};
+pub use line::{Cut, FeedLines, FeedUnits, Pulse, Reporting, StatusKind};
 pub use qr::{QrLevel, QrModel, QrSize};
-pub use switch::Switch;
-pub use text::{Character, CharacterSet, Emphasis, Font, Mode, Size, Table, Underline};

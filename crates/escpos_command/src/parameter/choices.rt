@@ -1,7 +1,7 @@
 //! What the bytes of parameters mean, as types that don't depend on the parameters.
 
 ghost use Rattle.std.specs.Prelude.{◌≡◌, ◌<◌};
-ghost use Rattle.escpos_command.specs.Meanings.{has_bit, choice, face_of, alignment_of, hri_position_of, scale_of, correction_of};
+ghost use Rattle.escpos_command.specs.Meanings.{has_bit, choice, face_of, alignment_of, hri_position_of, scale_of, correction_of, face_of_mode, magnified, underline_of_mode, size_width, size_height};
 
 /// A font of the printer.
 #[derive(Clone, Copy, Debug, PartialEq, Eq)]
@@ -72,6 +72,46 @@ pub fn choice(byte: u8) -> u8
     byte % 48
 }
 
+/// The font that ESC ! sets: bit 0 clear A, set B.
+pub fn face_of_mode(mode: u8) -> FontFace
+    ensures { result ≡ face_of_mode mode }
+{
+    if has_bit(mode, 0) {
+        FontFace::B
+    } else {
+        FontFace::A
+    }
+}
+
+/// The underline in dots that ESC ! sets: 1 where bit 7 is set, otherwise 0.
+pub fn underline_of_mode(mode: u8) -> u8
+    ensures { result ≡ underline_of_mode mode }
+{
+    if has_bit(mode, 7) { 1 } else { 0 }
+}
+
+/// The factor of a bit that doubles: 2 where it is set, otherwise 1.
+pub fn magnified(is_set: bool) -> u8
+    ensures { result ≡ magnified is_set }
+{
+    if is_set { 2 } else { 1 }
+}
+
+/// The width factor that GS ! sets, 1 to 8: bits 4 to 6 are the width less one.
+pub fn size_width(size: u8) -> u8
+    ensures { result ≡ size_width size }
+{
+    size / 16 % 8 + 1
+}
+
+/// The height factor that GS ! sets, 1 to 8: bits 0 to 2 are the height less one.
+pub fn size_height(size: u8) -> u8
+    ensures { result ≡ size_height size }
+{
+    size % 8 + 1
+}
+
+/// The font of a choice: 0 is A.
 pub fn face_of(choice: u8) -> FontFace
     ensures { result ≡ face_of choice }
 {
@@ -82,6 +122,7 @@ pub fn face_of(choice: u8) -> FontFace
     }
 }
 
+/// The alignment of a choice: 0 is left, 1 center.
 pub fn alignment_of(choice: u8) -> Alignment
     ensures { result ≡ alignment_of choice }
 {
@@ -92,6 +133,7 @@ pub fn alignment_of(choice: u8) -> Alignment
     }
 }
 
+/// The place of a choice: 0 is nowhere, 1 above, 2 below.
 pub fn hri_position_of(choice: u8) -> HriPosition
     ensures { result ≡ hri_position_of choice }
 {

@@ -2,55 +2,10 @@
 
 ghost use Rattle.std.specs.Prelude.{◌≡◌, ℕ, IsTrue, Some, None};
 ghost use Rattle.std.specs.Option.{SomeIff};
-ghost use Rattle.escpos_command.specs.Parameters.{is_byte, is_one_of_three, is_cut, is_pulse, is_status_kind};
-ghost use Rattle.escpos_command.specs.Meanings.{choice, alignment_of, leaves_a_point, all_but_drawer, reports};
+ghost use Rattle.escpos_command.specs.Parameters.{is_byte, is_cut, is_pulse, is_status_kind};
+ghost use Rattle.escpos_command.specs.Meanings.{leaves_a_point, all_but_drawer, reports};
 
-use super::choices::{Alignment, alignment_of, choice};
 use std::marker::Model;
-
-/// Where a line stands: 0 and 48 left, 1 and 49 center, 2 and 50 right. (Reference: ESC a.)
-#[derive(Clone, Copy, Debug, PartialEq, Eq)]
-pub struct Align {
-    byte: u8,
-}
-
-impl Model for Align {
-    ghost Value = { ℕ };
-
-    ghost view = { λ p. p.byte };
-
-    ghost invariant = { λ p. IsTrue (is_one_of_three p.byte) };
-
-    ghost inverse = { λ n. record { byte = n } };
-}
-
-impl Align {
-    /// The alignment of this byte; `None` for all but 0, 1, 2, 48, 49 and 50.
-    pub fn new(byte: u8) -> Option<Self>
-        ensures { SomeIff result (IsTrue (is_one_of_three byte)) byte }
-    {
-        if matches!(byte, 0 | 1 | 2 | 48 | 49 | 50) {
-            Some(Align { byte })
-        } else {
-            None
-        }
-    }
-
-    /// The byte as sent: 0, 1, 2, 48, 49 or 50.
-    pub fn byte(self) -> u8
-        ensures kept { result ≡ self }
-        ensures range { IsTrue (is_one_of_three result) }
-    {
-        self.byte
-    }
-
-    /// Which alignment it is.
-    pub fn alignment(self) -> Alignment
-        ensures { result ≡ alignment_of (choice self) }
-    {
-        alignment_of(choice(self.byte))
-    }
-}
 
 /// How many lines the paper is fed after the line. (Reference: ESC d.)
 #[derive(Clone, Copy, Debug, PartialEq, Eq)]
@@ -77,39 +32,6 @@ impl FeedLines {
     }
 
     /// The number of lines, 0 to 255.
-    pub fn byte(self) -> u8
-        ensures kept { result ≡ self }
-        ensures range { IsTrue (is_byte result) }
-    {
-        self.byte
-    }
-}
-
-/// How far the paper is fed for each line, in motion units. (Reference: ESC 3.)
-#[derive(Clone, Copy, Debug, PartialEq, Eq)]
-pub struct LineSpacing {
-    byte: u8,
-}
-
-impl Model for LineSpacing {
-    ghost Value = { ℕ };
-
-    ghost view = { λ p. p.byte };
-
-    ghost invariant = { λ p. IsTrue (is_byte p.byte) };
-
-    ghost inverse = { λ n. record { byte = n } };
-}
-
-impl LineSpacing {
-    /// The spacing of this many motion units. Every byte is one.
-    pub fn new(byte: u8) -> Option<Self>
-        ensures { SomeIff result (IsTrue (is_byte byte)) byte }
-    {
-        Some(LineSpacing { byte })
-    }
-
-    /// The number of motion units, 0 to 255.
     pub fn byte(self) -> u8
         ensures kept { result ≡ self }
         ensures range { IsTrue (is_byte result) }
