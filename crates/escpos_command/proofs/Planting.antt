@@ -3,43 +3,12 @@
 use Rattle.std.proofs.Common.{◌≡◌, ℕ, List, [], ◌∷◌, ◌++◌, refl, sym, ◌∙◌, ap, subst, append_assoc, append-nil, Bool, true, false, cond}
 use Rattle.std.specs.Prelude.{◌==◌, ◌&&◌, ◌||◌, not}
 use Rattle.std.specs.List.{list_all, list_any, AllByRecursion}
+use Rattle.escpos_command.specs.Prefixes.{Forms, apart, same, part_from, all_apart, has_form, tree_after}
 use Rattle.escpos_command.specs.Tree.{Tree, dead, leaf, node, walk, below, planted, all_planted}
 use Rattle.escpos_command.proofs.Walks.{IsLive, Good}
 use Rattle.escpos_command.proofs.Combinators.{and_left, and_right, same_number, number_itself, good_choice, live_choice}
 
--- ## Prefixes
-
--- Two prefixes part at some place: neither begins the other.
-abbrev pub apart : List ℕ → List ℕ → Bool
-apart [] q = false
-apart (b ∷ p) [] = false
-apart (b ∷ p) (c ∷ q) = not (b == c) || apart p q
-
-abbrev pub same : List ℕ → List ℕ → Bool
-same [] [] = true
-same [] (c ∷ q) = false
-same (b ∷ p) [] = false
-same (b ∷ p) (c ∷ q) = b == c && same p q
-
-abbrev pub Forms : Type 0
-Forms = List (List ℕ × Tree)
-
--- Each prefix of the forms parts from this one.
-abbrev pub part_from : List ℕ → Forms → Bool
-part_from q forms = list_all (λ form. apart form.0 q) forms
-
--- Any two of their prefixes part.
-abbrev pub all_apart : Forms → Bool
-all_apart [] = true
-all_apart (form ∷ forms) = list_all (λ other. apart form.0 other.0) forms && all_apart forms
-
--- The forms have this prefix, and this tree after it.
-abbrev pub has_form : List ℕ → Forms → Bool
-has_form q forms = list_any (λ form. same form.0 q) forms
-
-abbrev pub tree_after : List ℕ → Forms → Tree
-tree_after q [] = dead
-tree_after q (form ∷ forms) = cond (same form.0 q) form.1 (tree_after q forms)
+-- ## Tests
 
 test_turned : (b c : ℕ) → (c == b) ≡ true → (b == c) ≡ true
 test_turned b c h = subst (λ x. (b == x) ≡ true) (sym (same_number c b h)) (number_itself b)

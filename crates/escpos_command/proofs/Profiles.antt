@@ -16,11 +16,11 @@ use Rattle.escpos_command.specs.declared.setting.Values.TheVariants as values
 use Rattle.escpos_command.specs.Grammar.{Viable, Half, Reads, FaultAt}
 use Rattle.escpos_command.specs.SettingTable.{table, may_follow, is_nothing, fits, row_prefix, row_for}
 use Rattle.escpos_command.specs.Places.{reason_after}
+use Rattle.escpos_command.specs.Prefixes.{has_form, tree_after}
 use Rattle.escpos_command.specs.Profiles.{ViableIn, HalfIn, ReadsIn, FaultAtIn, IsReadIn, IsRefusedIn}
 use Rattle.escpos_command.specs.Tree.{Tree, dead, leaf, node, walk, forms, grammar, one, none, branch, these, passing, counted}
 use Rattle.escpos_command.proofs.Readings.{half_at_node, leads_spelling, no_prefix, not_empty, not_viable_at_dead, one_command, spelling_at_leaf, viable_where_live}
 use Rattle.escpos_command.proofs.Combinators.{at_row}
-use Rattle.escpos_command.proofs.Planting.{has_form, tree_after}
 use Rattle.escpos_command.proofs.SettingFacts.{is_table}
 use Rattle.escpos_command.proofs.SettingRows.{own_kind, some_value}
 use Rattle.escpos_command.proofs.TableTree.{form, setting, spelled_setting}

@@ -13,10 +13,11 @@ use Rattle.escpos_command.specs.declared.setting.Values.{Values}
 use Rattle.escpos_command.specs.declared.setting.Values.TheVariants as values
 use Rattle.escpos_command.specs.CommandTable.{Spells}
 use Rattle.escpos_command.specs.SettingTable.{may_follow, is_nothing, fits, row_prefix, number, blank, row_at, row_for}
+use Rattle.escpos_command.specs.Prefixes.{apart, part_from, rows_part_from}
 use Rattle.escpos_command.specs.Tree.{Tree, leaf, dead, walk, one, planted, forms, setting_tree, settings}
 use Rattle.escpos_command.proofs.Walks.{IsLive, Good}
 use Rattle.escpos_command.proofs.Combinators.{and_left, and_right, same_number, good_choice, good_one, walk-one}
-use Rattle.escpos_command.proofs.Planting.{apart, part_from, planted_there, planted_elsewhere, good_planted}
+use Rattle.escpos_command.proofs.Planting.{planted_there, planted_elsewhere, good_planted}
 
 -- ## What is asked of a table
 
@@ -82,13 +83,13 @@ pub setting_there : (rows : List Row) (others : Tree) (which : SettingKind) (w :
     → walk (settings rows others) (row_prefix (row_for rows which) ++ w) ≡ walk (setting_tree (row_for rows which)) w
 setting_there rows others which w one = there rows others (number which) w one.one_prefix (covered rows one which)
 
-pub settings_elsewhere : (rows : List Row) (others : Tree) (q w : List ℕ) → list_all (λ r. apart (row_prefix r) q) rows ≡ true
+pub settings_elsewhere : (rows : List Row) (others : Tree) (q w : List ℕ) → rows_part_from q rows ≡ true
     → walk (settings rows others) (q ++ w) ≡ walk others (q ++ w)
 unfolding settings
 settings_elsewhere [] others q w h = refl
 settings_elsewhere (r ∷ rows) others q w h =
-    planted_elsewhere (row_prefix r) q w (setting_tree r) (settings rows others) (and_left (apart (row_prefix r) q) (list_all (λ s. apart (row_prefix s) q) rows) h)
-    ∙ settings_elsewhere rows others q w (and_right (apart (row_prefix r) q) (list_all (λ s. apart (row_prefix s) q) rows) h)
+    planted_elsewhere (row_prefix r) q w (setting_tree r) (settings rows others) (and_left (apart (row_prefix r) q) (rows_part_from q rows) h)
+    ∙ settings_elsewhere rows others q w (and_right (apart (row_prefix r) q) (rows_part_from q rows) h)
 
 -- A parameter that fits leads to the setting.
 by_values : (b : Bool) (r : Row) → is_nothing r.values ≡ b → (p : Option ℕ) → fits r.values p ≡ true

@@ -12,13 +12,14 @@ use Rattle.escpos_command.specs.declared.setting.SettingKind.{SettingKind}
 use Rattle.escpos_command.specs.Parameters.{is_character, is_one_of_two, is_status_kind, is_feed_cut_mode, is_byte, is_cut, is_pulse, is_mark_byte, is_mark_id, is_qr_size, is_qr_level}
 use Rattle.escpos_command.specs.SettingTable.{table, fits, row_prefix, number, blank, row_at, row_for, is_setting}
 use Rattle.escpos_command.specs.CommandTable.{Spells, IsCommand, row}
+use Rattle.escpos_command.specs.Prefixes.{Forms, apart, part_from, has_form, tree_after, rows_part_from}
 use Rattle.escpos_command.specs.Tree.{Tree, leaf, dead, node, walk, planted, all_planted, one, passing, character, cut, mark, pulse, forms, setting_tree, settings, grammar, counted}
 use Rattle.escpos_command.proofs.BarcodeTree.{leads_barcode, good_barcodes}
 use Rattle.escpos_command.proofs.RasterTree.{leads_raster, good_raster}
 use Rattle.escpos_command.proofs.QrTree.{leads_model, leads_store, good_qr}
-use Rattle.escpos_command.proofs.Walks.{Good, IsLive}
+use Rattle.escpos_command.proofs.Walks.{Good, IsLive, walk-nil}
 use Rattle.escpos_command.proofs.Combinators.{good_choice, good_passing, good_one, good_these, good_counted, walk-counted, walk-one, live_counted, all_from_all, and_left, and_right, both, same_number, at_row}
-use Rattle.escpos_command.proofs.Planting.{Forms, apart, part_from, has_form, tree_after, all_elsewhere, all_there, all_good}
+use Rattle.escpos_command.proofs.Planting.{all_elsewhere, all_there, all_good}
 use Rattle.escpos_command.proofs.SettingRows.{SpellsSettings, all_at, covered, own_kind, own_row, setting_there, settings_elsewhere, to_setting, good_settings}
 use Rattle.escpos_command.proofs.SettingFacts.{is_table}
 
@@ -43,7 +44,7 @@ setting which w =
     ∙ setting_there table (node character) which w is_table
 
 -- Bytes that part from every prefix lead to no more than a character.
-pub elsewhere : (q w : List ℕ) → part_from q forms ≡ true → list_all (λ r. apart (row_prefix r) q) table ≡ true → walk grammar (q ++ w) ≡ walk (node character) (q ++ w)
+pub elsewhere : (q w : List ℕ) → part_from q forms ≡ true → rows_part_from q table ≡ true → walk grammar (q ++ w) ≡ walk (node character) (q ++ w)
 unfolding grammar
 elsewhere q w h k = all_elsewhere forms q w (settings table (node character)) h ∙ settings_elsewhere table (node character) q w k
 
@@ -65,16 +66,26 @@ forms_part (form ∷ forms) c h k =
     both _ _ (parts_from_character form.0 c (and_left (starts_low form.0) (list_all (λ other. starts_low other.0) forms) h) k)
     (forms_part forms c (and_right (starts_low form.0) (list_all (λ other. starts_low other.0) forms) h) k)
 
-rows_part : (rows : List Row) (c : ℕ) → list_all (λ r. nat_lt r.first 0x20) rows ≡ true → is_character c ≡ true → list_all (λ r. apart (row_prefix r) (c ∷ [])) rows ≡ true
+rows_part : (rows : List Row) (c : ℕ) → list_all (λ r. nat_lt r.first 0x20) rows ≡ true → is_character c ≡ true → rows_part_from (c ∷ []) rows ≡ true
 rows_part [] c h k = refl
 rows_part (r ∷ rows) c h k =
     both _ _ (parts_from_character (row_prefix r) c (and_left (nat_lt r.first 0x20) (list_all (λ s. nat_lt s.first 0x20) rows) h) k)
     (rows_part rows c (and_right (nat_lt r.first 0x20) (list_all (λ s. nat_lt s.first 0x20) rows) h) k)
 
+-- The same with nothing after the prefix.
+pub at_form : (q : List ℕ) → has_form q forms ≡ true → walk grammar q ≡ tree_after q forms
+at_form q h = ap (walk grammar) (sym (append-nil q)) ∙ form q [] h ∙ walk-nil (tree_after q forms)
+
+pub at_setting : (which : SettingKind) → walk grammar (row_prefix (row_for table which)) ≡ setting_tree (row_for table which)
+at_setting which = setting which [] ∙ walk-nil (setting_tree (row_for table which))
+
+pub at_neither : (q : List ℕ) → part_from q forms ≡ true → rows_part_from q table ≡ true → walk grammar q ≡ walk (node character) q
+at_neither q h k = ap (walk grammar) (sym (append-nil q)) ∙ elsewhere q [] h k ∙ ap (walk (node character)) (append-nil q)
+
 -- ## Each spelling leads to its command
 
 -- A character begins no command of another kind.
-leads_character : (b : ℕ) → is_character b ≡ true → walk grammar (b ∷ []) ≡ leaf (kind.Char b)
+pub leads_character : (b : ℕ) → is_character b ≡ true → walk grammar (b ∷ []) ≡ leaf (kind.Char b)
 leads_character b h =
     elsewhere (b ∷ []) [] (forms_part forms b refl h) (rows_part table b is_table.low h)
     ∙ ap (λ v. walk (cond v (leaf (kind.Char b)) dead) []) h
@@ -173,19 +184,43 @@ good_pulse =
 good_forms : AllByRecursion (λ f. IsLive f.1 × Good f.0 f.1) forms
 good_forms = (
   (tt, at_row kind.LineFeed refl),
-  ((tt, at_row kind.Return refl),
-  ((tt, good_one (DLE ∷ EOT ∷ []) is_status_kind kind.Status 1 refl (λ n h. at_row (kind.Status n) h)),
-  ((tt, at_row kind.Init refl),
-  ((tt, good_one (ESC ∷ 0x4A ∷ []) is_byte kind.FeedUnits 0 refl (λ n h. at_row (kind.FeedUnits n) h)),
-  ((tt, good_one (ESC ∷ 0x64 ∷ []) is_byte kind.FeedLines 0 refl (λ n h. at_row (kind.FeedLines n) h)),
-  ((tt, good_pulse),
-  ((tt, good_mark),
-  ((tt, good_qr),
-  ((tt, ((0, tt), good_cut)),
-  ((tt, good_one (GS ∷ 0x61 ∷ []) is_byte kind.AutomaticStatus 0 refl (λ n h. at_row (kind.AutomaticStatus n) h)),
-  ((tt, ((65, tt), good_barcodes)),
-  ((tt, good_raster),
-  tt)))))))))))),
+  (
+    (tt, at_row kind.Return refl),
+    (
+      (tt, good_one (DLE ∷ EOT ∷ []) is_status_kind kind.Status 1 refl (λ n h. at_row (kind.Status n) h)),
+      (
+        (tt, at_row kind.Init refl),
+        (
+          (tt, good_one (ESC ∷ 0x4A ∷ []) is_byte kind.FeedUnits 0 refl (λ n h. at_row (kind.FeedUnits n) h)),
+          (
+            (tt, good_one (ESC ∷ 0x64 ∷ []) is_byte kind.FeedLines 0 refl (λ n h. at_row (kind.FeedLines n) h)),
+            (
+              (tt, good_pulse),
+              (
+                (tt, good_mark),
+                (
+                  (tt, good_qr),
+                  (
+                    (tt, ((0, tt), good_cut)),
+                    (
+                      (tt, good_one (GS ∷ 0x61 ∷ []) is_byte kind.AutomaticStatus 0 refl (λ n h. at_row (kind.AutomaticStatus n) h)),
+                      (
+                        (tt, ((65, tt), good_barcodes)),
+                        (
+                          (tt, good_raster),
+                          tt,
+                        ),
+                      ),
+                    ),
+                  ),
+                ),
+              ),
+            ),
+          ),
+        ),
+      ),
+    ),
+  ),
 )
 
 spelled_so : (which : SettingKind) (r : Row) (p : Option ℕ) → row_for table which ≡ r → fits r.values p ≡ true → Spells (kind.Set (which, p)) (row_prefix r ++ option_to_list p)

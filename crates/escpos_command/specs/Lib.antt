@@ -6,10 +6,12 @@ pub mod Rasters
 pub mod QrCodes
 pub mod Digits
 pub mod SettingTable
+pub mod Reference
 pub mod CommandTable
 pub mod Places
 pub mod Grammar
 pub mod Tree
+pub mod Prefixes
 pub mod Profiles
 pub mod ThirdProfile
 pub mod SecondProfile

@@ -1,6 +1,6 @@
 -- The table of the commands that only set something. What is said of a table is said of any list of rows; `table` is the one
 -- of the module `setting`.
-use Rattle.std.specs.Prelude.{ℕ, ◌==◌, ◌&&◌, Bool, true, false, List, [], ◌∷◌, Option, None, Some, codes, get_or}
+use Rattle.std.specs.Prelude.{ℕ, ◌==◌, ◌&&◌, Bool, true, false, List, [], ◌∷◌, Option, None, Some, get_or}
 use Rattle.std.specs.Option.{unwrap_or}
 use denote.Enum.Declared.{tag_of}
 use Rattle.escpos_command.specs.Parameters.{is_byte, is_one_of_two, is_one_of_three, is_one_of_four, is_character_set, is_size, is_bar_height, is_bar_width}
@@ -63,24 +63,3 @@ table = TABLE
 -- The parameter as a number: 0 where there is none.
 abbrev pub value : Option ℕ → ℕ
 value parameter = unwrap_or parameter 0
-
--- The names that programs print.
-abbrev pub name_of : SettingKind → List ℕ
-name_of sets.Mode = codes "mode"
-name_of sets.Emphasis = codes "emphasis"
-name_of sets.DoubleStrike = codes "strike"
-name_of sets.Underline = codes "underline"
-name_of sets.Font = codes "font"
-name_of sets.Table = codes "table"
-name_of sets.CharacterSet = codes "charset"
-name_of sets.Reverse = codes "reverse"
-name_of sets.Smoothing = codes "smooth"
-name_of sets.UpsideDown = codes "upside"
-name_of sets.Align = codes "align"
-name_of sets.LineSpacing = codes "spacing"
-name_of sets.DefaultSpacing = codes "spacing default"
-name_of sets.Size = codes "size"
-name_of sets.BarHeight = codes "barheight"
-name_of sets.BarWidth = codes "barwidth"
-name_of sets.HriPlace = codes "hriplace"
-name_of sets.HriFont = codes "hrifont"

@@ -2,11 +2,14 @@
 //! proved with this crate, and another crate cites it by calling the function. (`in_range` asks the command for its parts,
 //! whose contract gives the law; `same_clone` clones the command.)
 
-ghost use Rattle.std.specs.Prelude.{ℕ, ◌≡◌, ◌≢◌, ◌+◌, ◌<◌, ◌≤◌, ◌⊎◌, List, [], ◌∷◌, ◌++◌, length, slice_index, IsTrue, IfOk};
+ghost use Rattle.std.specs.Prelude.{ℕ, ◌≡◌, ◌≢◌, ◌+◌, ◌<◌, ◌≤◌, ◌⊎◌, List, [], ◌∷◌, ◌++◌, length, slice_index, IsTrue, IfOk, Option};
 ghost use Rattle.escpos_command.specs.declared.fault.FaultReason.{FaultReason};
 ghost use Rattle.escpos_command.specs.CommandTable.{Spells, IsCommand, row, spell};
 ghost use Rattle.escpos_command.specs.Grammar.{Viable, Half, Reads, FaultAt};
 ghost use Rattle.escpos_command.specs.Parameters.{is_mark_id};
+ghost use Rattle.escpos_command.specs.SettingTable.{table, row_for, row_prefix, is_setting};
+ghost use Rattle.escpos_command.specs.Reference.{reference};
+ghost use Rattle.escpos_command.specs.declared.setting.SettingKind.{SettingKind};
 ghost use Rattle.escpos_command.specs.Digits.{mark_count, mark_of};
 ghost use Rattle.escpos_command.specs.Tree.{Tree, dead, leaf, node, walk, grammar};
 ghost use Rattle.escpos_command.specs.Profiles.{ViableIn, ReadsIn, FaultAtIn, IsReadIn, IsRefusedIn};
@@ -86,6 +89,12 @@ pub fn third_profile()
         FaultAtIn in_third_profile bs cs rest k why → FaultAt bs cs rest k why ⊎ IsNewSinceThird rest (slice_index bs k) }
     ensures new { (rest : List ℕ) (b : ℕ) → IsNewSinceThird rest b →
         Viable (rest ++ b ∷ []) × (ViableIn in_third_profile (rest ++ b ∷ []) → ⊥) }
+{}
+
+/// The table of settings: its rows have the letters of the Reference, and allow the same parameters.
+pub fn setting_table()
+    ensures letters { (which : SettingKind) → row_prefix (row_for table which) ≡ (reference which).letters }
+    ensures parameters { (which : SettingKind) (parameter : Option ℕ) → is_setting table (which, parameter) ≡ (reference which).allows parameter }
 {}
 
 /// Mark numbers: each has an id of its own.

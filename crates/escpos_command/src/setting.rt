@@ -3,12 +3,13 @@
 //! A row of the table is a kind with its prefix, the parameters that may follow it, the profile of this project that first had
 //! it, and its name in a listing. From the rows come the constant that the definitions cite (`specs/SettingTable.antt`), the
 //! prefixes, the names and the search for a prefix. What holds for every kind is proved of any table of such rows: a new
-//! setting is a variant of `SettingKind`, a row in the same place, and a name in `specs/SettingTable.antt`.
+//! setting is a variant of `SettingKind`, a row in the same place, and a line of `specs/Reference.antt`.
 
 ghost use Rattle.std.specs.Prelude.{◌≡◌, ◌≤◌, ◌∷◌, [], ℕ, false, length, IsTrue, MatchOption};
 ghost use Rattle.std.specs.List.{list_any};
 ghost use Rattle.std.specs.Option.{SomeIff};
-ghost use Rattle.escpos_command.specs.SettingTable.{table, fits, row_for, row_prefix, has_prefix, is_setting, name_of, value};
+ghost use Rattle.escpos_command.specs.SettingTable.{table, fits, row_for, row_prefix, has_prefix, is_setting, value};
+ghost use Rattle.escpos_command.specs.Reference.{name_of};
 
 use crate::bytes::{ESC, GS};
 use std::marker::Model;
