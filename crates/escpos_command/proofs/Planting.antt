@@ -1,8 +1,8 @@
 -- Prefixes planted in a tree: where bytes lead then, and that the tree is good where its parts are. Each fact is proved once, for
 -- any prefixes of any length and any trees after them.
 use Rattle.std.proofs.Common.{◌≡◌, ℕ, List, [], ◌∷◌, ◌++◌, refl, sym, ◌∙◌, ap, subst, append_assoc, append-nil, Bool, true, false, cond}
-use Rattle.std.specs.Prelude.{◌==◌, ◌&&◌, ◌||◌, not}
-use Rattle.std.specs.List.{list_all, list_any, AllByRecursion}
+use Rattle.std.specs.Prelude.{◌==◌, ◌||◌, not}
+use Rattle.std.specs.List.{list_all, AllByRecursion}
 use Rattle.escpos_command.specs.Prefixes.{Forms, apart, same, part_from, all_apart, has_form, tree_after}
 use Rattle.escpos_command.specs.Tree.{Tree, dead, leaf, node, walk, below, planted, all_planted}
 use Rattle.escpos_command.proofs.Walks.{IsLive, Good}

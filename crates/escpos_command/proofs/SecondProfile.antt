@@ -10,8 +10,8 @@ use Rattle.escpos_command.specs.declared.command.Command.TheVariants as kind
 use Rattle.escpos_command.specs.declared.setting.SettingKind.{SettingKind}
 use Rattle.escpos_command.specs.Parameters.{is_byte, is_qr_model, is_qr_size, is_qr_level}
 use Rattle.escpos_command.specs.QrCodes.{is_qr_length}
-use Rattle.escpos_command.specs.SettingTable.{table, row_prefix, number, blank, row_for}
-use Rattle.escpos_command.specs.CommandTable.{IsCommand, row}
+use Rattle.escpos_command.specs.SettingTable.{table, number, blank, row_for}
+use Rattle.escpos_command.specs.CommandTable.{row}
 use Rattle.escpos_command.specs.SecondProfile.{in_second_profile, IsNewLetter, setting, status, after_bracket}
 use Rattle.escpos_command.specs.Profiles.{ViableIn, IsNewSetting}
 use Rattle.escpos_command.specs.Tree.{Tree, leaf, dead, node, walk, grammar, passing, these, one, none, branch, qr_data, qr_functions, qr_function, qr_code, qr_high, qr}

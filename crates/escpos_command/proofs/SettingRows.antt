@@ -1,11 +1,10 @@
 -- Facts about any table of settings. None names a kind.
-use Rattle.std.proofs.Common.{◌≡◌, ℕ, zero, suc, ◌+◌, ◌<◌, List, [], ◌∷◌, ◌++◌, length, get_or, arith, Bool, true, false, cond, Option, None, Some, refl, sym, ◌∙◌, ap, subst}
+use Rattle.std.proofs.Common.{◌≡◌, ℕ, zero, suc, ◌+◌, ◌<◌, List, [], ◌∷◌, ◌++◌, length, get_or, arith, Bool, true, false, cond, Option, None, Some, refl, sym, ◌∙◌, ap}
 use Rattle.std.specs.Prelude.{◌==◌, ◌&&◌, nat_lt, option_to_list}
 use Rattle.std.specs.List.{list_all}
 use Rattle.std.proofs.lemmas.Bool.Decides.{nat_tests}
 use denote.Enum.Bare.{tag_one}
 use Rattle.escpos_command.specs.contracts.setting.SettingKind.{the_type}
-use Rattle.escpos_command.specs.declared.command.Command.{Command}
 use Rattle.escpos_command.specs.declared.command.Command.TheVariants as kind
 use Rattle.escpos_command.specs.declared.setting.Row.{Row}
 use Rattle.escpos_command.specs.declared.setting.SettingKind.{SettingKind}
@@ -14,7 +13,7 @@ use Rattle.escpos_command.specs.declared.setting.Values.TheVariants as values
 use Rattle.escpos_command.specs.CommandTable.{Spells}
 use Rattle.escpos_command.specs.SettingTable.{may_follow, is_nothing, fits, row_prefix, number, blank, row_at, row_for}
 use Rattle.escpos_command.specs.Prefixes.{apart, part_from, rows_part_from}
-use Rattle.escpos_command.specs.Tree.{Tree, leaf, dead, walk, one, planted, forms, setting_tree, settings}
+use Rattle.escpos_command.specs.Tree.{Tree, leaf, walk, one, forms, setting_tree, settings}
 use Rattle.escpos_command.proofs.Walks.{IsLive, Good}
 use Rattle.escpos_command.proofs.Combinators.{and_left, and_right, same_number, good_choice, good_one, walk-one}
 use Rattle.escpos_command.proofs.Planting.{planted_there, planted_elsewhere, good_planted}

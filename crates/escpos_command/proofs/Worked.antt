@@ -1,5 +1,5 @@
 -- Worked rows of the profiles, computed from the definitions alone.
-use Rattle.std.proofs.Common.{◌≡◌, List, [], ◌∷◌, refl, true, false, map, Some}
+use Rattle.std.proofs.Common.{◌≡◌, [], ◌∷◌, refl, true, false, map, Some}
 use Rattle.std.specs.Prelude.{filter, nat_lt}
 use Rattle.escpos_command.specs.declared.bytes.TheConstants.{ESC, GS}
 use Rattle.escpos_command.specs.declared.command.Command.TheVariants as kind

@@ -12,7 +12,7 @@ use Rattle.escpos_command.specs.Tree.{Tree, dead, leaf, node, walk, grammar, cou
 use Rattle.escpos_decode.specs.declared.state.State.TheVariants.{Dots}
 use Rattle.escpos_decode.specs.State.{step, prefix_of, tree_of, IsAt}
 use Rattle.escpos_decode.proofs.Steps.{counted_goes, byte_passes}
-use Rattle.escpos_decode.proofs.States.{walk-nil}
+use Rattle.escpos_command.proofs.Walks.{walk-nil}
 
 pub bytes_pass : (bs : List ℕ) (k : ℕ) → ((i : ℕ) → Fits w8 (slice_index_or bs i 0)) → list_all is_byte (take k bs) ≡ true
 bytes_pass bs zero h = refl

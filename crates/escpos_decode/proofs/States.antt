@@ -1,6 +1,6 @@
 -- What a state says of the half command, by the law of the tree.
-use Rattle.std.proofs.Common.{◌≡◌, ◌≢◌, ◌<◌, inl, inr, ℕ, List, [], ◌∷◌, ◌++◌, length, take, refl, sym, ◌∙◌, ap, subst, append_assoc, append-nil, arith, zero, suc, Bool, true, false, length-append}
-use Rattle.std.specs.Prelude.{slice_index, IsTrue, nat_lt}
+use Rattle.std.proofs.Common.{◌≡◌, ◌≢◌, ◌<◌, inl, inr, ℕ, List, [], ◌∷◌, ◌++◌, length, take, refl, sym, ◌∙◌, ap, subst, append_assoc, append-nil, arith, zero, suc, Bool, true, false, cond, length-append, None, Some}
+use Rattle.std.specs.Prelude.{slice_index, IsTrue, nat_lt, not}
 use Rattle.std.proofs.Math.Seq.{take-append_seam, get_or-append_seam}
 use Rattle.std.proofs.lemmas.Bool.Decides.{nat_tests}
 use Rattle.escpos_command.specs.declared.command.Command.{Command}
@@ -9,7 +9,7 @@ use Rattle.escpos_command.specs.declared.fault.FaultReason.{FaultReason}
 use Rattle.escpos_command.specs.CommandTable.{Spells}
 use Rattle.escpos_command.specs.Grammar.{Viable, Half, Reads, FaultAt}
 use Rattle.escpos_command.specs.Places.{reason_after}
-use Rattle.escpos_command.specs.Tree.{Tree, dead, leaf, node, walk, grammar, counted, closed, stopped}
+use Rattle.escpos_command.specs.Tree.{Tree, dead, leaf, node, walk, one, grammar, setting_tree, counted, closed, stopped}
 use Rattle.escpos_decode.specs.declared.state.State.{State}
 use Rattle.escpos_decode.specs.declared.state.State.TheVariants as state
 use Rattle.escpos_decode.specs.declared.state.Ending.{Ending}
@@ -21,6 +21,14 @@ use Rattle.escpos_decode.specs.declared.decoder.Ahead.TheVariants as ahead
 use Rattle.escpos_decode.specs.State.{prefix_of, tree_of, has_content, holds, step, command_of, IsAt, Moves, Grows, NextIs}
 use Rattle.escpos_decode.specs.Push.{IsRest, AheadIs, ahead_of}
 use Rattle.escpos_command.proofs.Readings.{half_at_node, not_viable_at_dead, spelling_at_leaf}
+use Rattle.escpos_command.proofs.TableTree.{at_form}
+use Rattle.escpos_command.proofs.TableTree.{at_start as before_all}
+use Rattle.escpos_command.proofs.Walks.{IsLive, walk-append, walk-nil}
+use Rattle.escpos_command.specs.declared.bytes.TheConstants.{DLE, EOT, ESC, GS}
+use Rattle.escpos_command.specs.declared.setting.SettingKind.{SettingKind}
+use Rattle.escpos_command.specs.declared.setting.Values.{Values}
+use Rattle.escpos_command.specs.declared.setting.Values.TheVariants as values
+use Rattle.escpos_command.specs.SettingTable.{table, is_nothing, may_follow, row_for}
 use Rattle.escpos_decode.specs.State.{completed}
 
 -- The law of the tree, as `escpos_command` states it.
@@ -49,18 +57,37 @@ unfolding stopped
 stopped_node zero test stops make read = (_, refl)
 stopped_node (suc n) test stops make read = (_, refl)
 
+-- What leads to something live is a choice before that.
+node_before : (s : Tree) (b : ℕ) (more : List ℕ) (t : Tree) → walk s (b ∷ more) ≡ t → IsLive t → (next : ℕ → Tree) × (s ≡ node next)
+node_before dead b more t e live = absurd (subst IsLive (sym e) live)
+node_before (leaf c) b more t e live = absurd (subst IsLive (sym e) live)
+node_before (node next) b more t e live = (next, refl)
+
+node_at_prefix : (q : List ℕ) (b : ℕ) (more : List ℕ) (t : Tree) → walk grammar (q ++ b ∷ more) ≡ t → IsLive t → (next : ℕ → Tree) × (walk grammar q ≡ node next)
+node_at_prefix q b more t e live = node_before (walk grammar q) b more t (sym (walk-append grammar q (b ∷ more)) ∙ e) live
+
+not_nothing : (v : Values) → not (is_nothing v) ≡ true → is_nothing v ≡ false
+not_nothing values.Nothing h = absurd cc
+not_nothing _ h = refl
+
+node_at_setting : (which : SettingKind) → not (is_nothing (row_for table which).values) ≡ true → (next : ℕ → Tree) × (setting_tree (row_for table which) ≡ node next)
+node_at_setting which h =
+    let r = row_for table which in
+    (_, ap (λ v. cond v (leaf (kind.Set (r.kind, None))) (one (may_follow r.values) (λ n. kind.Set (r.kind, Some n)))) (not_nothing r.values h))
+
 node_at : (p : State) (read : List ℕ) → IsTrue (holds p) → (next : ℕ → Tree) × (tree_of p read ≡ node next)
-node_at state.Start read h = (_, refl)
-node_at state.Dle read h = (_, refl)
-node_at state.Esc read h = (_, refl)
-node_at state.Gs read h = (_, refl)
+node_at state.Start read h = before_all
+node_at state.Dle read h = node_at_prefix (DLE ∷ []) EOT [] _ (at_form (DLE ∷ EOT ∷ []) refl) tt
+node_at state.Esc read h = node_at_prefix (ESC ∷ []) 0x40 [] _ (at_form (ESC ∷ 0x40 ∷ []) refl) tt
+node_at state.Gs read h = node_at_prefix (GS ∷ []) 0x56 [] _ (at_form (GS ∷ 0x56 ∷ []) refl) tt
+node_at (state.Setting which) read h = node_at_setting which h
 node_at (state.Parameter l) read h = (_, refl)
 node_at state.PulsePin read h = (_, refl)
 node_at (state.PulseOn pin) read h = (_, refl)
 node_at (state.PulseOff pin on) read h = (_, refl)
 node_at state.CutMode read h = (_, refl)
 node_at (state.CutFeed mode) read h = (_, refl)
-node_at state.Bracket read h = (_, refl)
+node_at state.Bracket read h = node_at_prefix (GS ∷ 0x28 ∷ []) 0x48 [] _ (at_form (GS ∷ 0x28 ∷ 0x48 ∷ []) refl) tt
 node_at state.MarkLengthLow read h = (_, refl)
 node_at state.MarkLengthHigh read h = (_, refl)
 node_at state.MarkFunction read h = (_, refl)
@@ -106,15 +133,10 @@ rest_at law p read at =
     rest_or_not law (prefix_of p ++ read) below.0 (at.leads ∙ below.1)
 
 pub at_start : IsAt state.Start []
-at_start = record { leads = refl; held = refl; empty = λ h. refl }
-
-pub walk-nil : (t : Tree) → walk t [] ≡ t
-walk-nil dead = refl
-walk-nil (leaf c) = refl
-walk-nil (node next) = refl
+at_start = record { leads = walk-nil grammar; held = refl; empty = λ h. refl }
 
 -- One more byte goes on from where the bytes before it lead.
-walk-snoc : (t : Tree) (bs : List ℕ) (b : ℕ) → walk t (bs ++ b ∷ []) ≡ step (walk t bs) b
+pub walk-snoc : (t : Tree) (bs : List ℕ) (b : ℕ) → walk t (bs ++ b ∷ []) ≡ step (walk t bs) b
 walk-snoc dead bs b = refl
 walk-snoc (leaf c) [] b = refl
 walk-snoc (leaf c) (x ∷ bs) b = refl
@@ -199,27 +221,10 @@ some_ahead (kind.Char x) e = absurd cc
 some_ahead kind.LineFeed e = absurd cc
 some_ahead kind.Return e = absurd cc
 some_ahead kind.Init e = absurd cc
-some_ahead (kind.Mode x) e = absurd cc
-some_ahead (kind.Emphasis x) e = absurd cc
-some_ahead (kind.DoubleStrike x) e = absurd cc
-some_ahead (kind.Underline x) e = absurd cc
-some_ahead (kind.Font x) e = absurd cc
-some_ahead (kind.Table x) e = absurd cc
-some_ahead (kind.CharacterSet x) e = absurd cc
-some_ahead (kind.Reverse x) e = absurd cc
-some_ahead (kind.Smoothing x) e = absurd cc
-some_ahead (kind.UpsideDown x) e = absurd cc
-some_ahead (kind.Align x) e = absurd cc
-some_ahead (kind.LineSpacing x) e = absurd cc
-some_ahead kind.DefaultSpacing e = absurd cc
+some_ahead (kind.Set x) e = absurd cc
 some_ahead (kind.FeedLines x) e = absurd cc
 some_ahead (kind.FeedUnits x) e = absurd cc
 some_ahead (kind.Pulse x) e = absurd cc
-some_ahead (kind.Size x) e = absurd cc
-some_ahead (kind.BarHeight x) e = absurd cc
-some_ahead (kind.BarWidth x) e = absurd cc
-some_ahead (kind.HriPlace x) e = absurd cc
-some_ahead (kind.HriFont x) e = absurd cc
 some_ahead (kind.Bars x) e = absurd cc
 some_ahead (kind.Raster x) e = absurd cc
 some_ahead (kind.Cut x) e = absurd cc

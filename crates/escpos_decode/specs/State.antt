@@ -1,7 +1,7 @@
 -- Where in the command table a decoder stands between two bytes. A state stands for bytes, those that lead to it, and for
 -- the part of the tree of the command table that is below it. Only private clauses, invariants and proofs use these
 -- definitions.
-use Rattle.std.specs.Prelude.{ℕ, ◌≡◌, ◌+◌, ◌-◌, ◌/◌, ◌%◌, ◌&&◌, nat_le, nat_lt, Bool, true, false, IsTrue, Some, List, [], ◌∷◌, ◌++◌, take, drop}
+use Rattle.std.specs.Prelude.{ℕ, ◌≡◌, ◌+◌, ◌-◌, ◌/◌, ◌%◌, ◌&&◌, nat_le, nat_lt, not, Bool, true, false, IsTrue, Some, List, [], ◌∷◌, ◌++◌, take, drop}
 use Rattle.escpos_command.specs.declared.bytes.TheConstants.{DLE, ESC, GS}
 use Rattle.escpos_command.specs.declared.command.Command.{Command}
 use Rattle.escpos_command.specs.declared.command.Command.TheVariants as kind
@@ -10,7 +10,8 @@ use Rattle.escpos_command.specs.declared.bars.Symbology.TheVariants.{Codabar}
 use Rattle.escpos_command.specs.Parameters.{is_byte, is_one_of_two, is_one_of_four, is_feed_cut_mode, is_mark_byte, is_qr_model}
 use Rattle.escpos_command.specs.Barcodes.{barcode, barcode_mode, is_codabar_end}
 use Rattle.escpos_command.specs.Rasters.{picture, is_width}
-use Rattle.escpos_command.specs.Tree.{Tree, walk, dead, leaf, node, passing, these, one, counted, branch, none, grammar, after_dle, after_esc, after_gs, pulse, cut, barcodes, raster, after_scale, after_width, after_low, plain_content, codabar_content, content_of, dots_tree, form_b, after_bracket, qr, qr_high, qr_code, qr_function, qr_data}
+use Rattle.escpos_command.specs.SettingTable.{table, is_nothing, row_prefix, row_for}
+use Rattle.escpos_command.specs.Tree.{Tree, walk, below, dead, leaf, node, passing, these, one, counted, branch, none, grammar, setting_tree, pulse, cut, barcodes, raster, after_scale, after_width, after_low, plain_content, codabar_content, content_of, dots_tree, form_b, qr, qr_high, qr_code, qr_function, qr_data}
 use Rattle.escpos_decode.specs.OneParameter.{parameter_prefix, parameter_allows, parameter_command}
 use Rattle.escpos_decode.specs.Push.{ahead_of, begins_content}
 use Rattle.escpos_decode.specs.declared.decoder.Ahead.{Ahead}
@@ -38,6 +39,7 @@ prefix_of state.Start = []
 prefix_of state.Dle = DLE ∷ []
 prefix_of state.Esc = ESC ∷ []
 prefix_of state.Gs = GS ∷ []
+prefix_of (state.Setting which) = row_prefix (row_for table which)
 prefix_of (state.Parameter letter) = parameter_prefix letter
 prefix_of state.PulsePin = ESC ∷ 0x70 ∷ []
 prefix_of (state.PulseOn pin) = ESC ∷ 0x70 ∷ pin ∷ []
@@ -80,16 +82,17 @@ prefix_of state.QrPrintMode = qr_prefix ++ 0x03 ∷ 0x00 ∷ 0x31 ∷ 0x51 ∷ [
 -- The part of the tree below a state, where this content, or these dots, were read.
 abbrev pub tree_of : State → List ℕ → Tree
 tree_of state.Start read = grammar
-tree_of state.Dle read = node (branch after_dle none)
-tree_of state.Esc read = node (branch after_esc none)
-tree_of state.Gs read = node (branch after_gs none)
+tree_of state.Dle read = walk grammar (DLE ∷ [])
+tree_of state.Esc read = walk grammar (ESC ∷ [])
+tree_of state.Gs read = walk grammar (GS ∷ [])
+tree_of (state.Setting which) read = setting_tree (row_for table which)
 tree_of (state.Parameter letter) read = one (parameter_allows letter) (parameter_command letter)
 tree_of state.PulsePin read = pulse
 tree_of (state.PulseOn pin) read = passing is_byte (λ on. one is_byte (λ off. kind.Pulse (pin, on, off)))
 tree_of (state.PulseOff pin on) read = one is_byte (λ off. kind.Pulse (pin, on, off))
 tree_of state.CutMode read = node cut
 tree_of (state.CutFeed mode) read = one is_byte (λ n. kind.Cut (mode, Some n))
-tree_of state.Bracket read = node (branch after_bracket none)
+tree_of state.Bracket read = walk grammar (GS ∷ 0x28 ∷ [])
 tree_of state.MarkLengthLow read = these (drop 3 mark_prefix) (counted 4 (λ _. is_mark_byte) kind.Mark [])
 tree_of state.MarkLengthHigh read = these (drop 4 mark_prefix) (counted 4 (λ _. is_mark_byte) kind.Mark [])
 tree_of state.MarkFunction read = these (drop 5 mark_prefix) (counted 4 (λ _. is_mark_byte) kind.Mark [])
@@ -126,9 +129,7 @@ tree_of state.QrPrintMode read = these (0x30 ∷ []) (leaf kind.QrPrint)
 
 -- The tree below the byte b of a tree.
 abbrev pub step : Tree → ℕ → Tree
-step dead b = dead
-step (leaf c) b = dead
-step (node next) b = next b
+step t b = below t b
 
 -- The command of a content, or of dots, that ends here.
 abbrev pub command_of : Ending → List ℕ → Command
@@ -148,6 +149,7 @@ has_content _ = false
 
 -- What a state holds is in range.
 abbrev pub holds : State → Bool
+holds (state.Setting which) = not (is_nothing (row_for table which).values)
 holds (state.PulseOn pin) = is_one_of_two pin
 holds (state.PulseOff pin on) = is_one_of_two pin
 holds (state.CutFeed mode) = is_feed_cut_mode mode

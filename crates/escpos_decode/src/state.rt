@@ -1,7 +1,7 @@
 //! Where in the command table a decoder stands between two bytes, and where the next byte leads from there.
 //!
 //! The states are those of the machine that the Reference's table describes. Each is named after the byte that comes next
-//! there or the command that it belongs to. A state holds the parameters read so far; the content and the dots are the
+//! there or the command that it belongs to. The settings have one state for all, and are found in their table. A state holds the parameters read so far; the content and the dots are the
 //! decoder's. `specs/State.antt` defines which bytes lead to a state, and which part of the tree of the command table is
 //! below it.
 
@@ -9,7 +9,8 @@ ghost use Rattle.std.specs.Prelude.{◌≡◌, ◌∷◌, ◌++◌, ◌&&◌, []
 ghost use Rattle.escpos_command.specs.declared.command.Command.{Command};
 ghost use Rattle.escpos_command.specs.Parameters.{is_mark_byte};
 ghost use Rattle.escpos_command.specs.Places.{reason_after};
-ghost use Rattle.escpos_command.specs.Tree.{these};
+ghost use Rattle.escpos_command.specs.Prefixes.{part_from};
+ghost use Rattle.escpos_command.specs.Tree.{these, walk, forms, grammar};
 ghost use Rattle.escpos_decode.specs.State.{prefix_of, tree_of, holds, has_content, wanted_at, NextIs};
 ghost use Rattle.escpos_decode.specs.declared.state.State.{State};
 ghost use Rattle.escpos_decode.specs.declared.state.State.TheVariants as state;
@@ -18,8 +19,8 @@ ghost use Rattle.escpos_decode.specs.declared.state.Next.TheVariants as next;
 use crate::one_parameter::OneParameter;
 use crate::{content, qr};
 use escpos_command::{
-    CR, Character, Command, Cut, DLE, EOT, ESC, FaultReason, Form, GS, LF, MarkId, Pulse,
-    Symbology, is_mark_byte,
+    CR, Character, Command, Cut, DLE, EOT, ESC, FaultReason, Form, GS, LF, MarkId, Pulse, Setting,
+    SettingKind, Symbology, is_mark_byte,
 };
 
 /// A state in the command table between two bytes.
@@ -33,7 +34,9 @@ pub enum State {
     Esc,
     /// After GS.
     Gs,
-    /// After a letter with one parameter.
+    /// After the prefix of a setting that has a parameter.
+    Setting(SettingKind),
+    /// After another letter with one parameter.
     Parameter(OneParameter),
     /// After ESC p: the pin.
     PulsePin,
@@ -210,6 +213,7 @@ impl State {
             State::Dle => after_dle(byte),
             State::Esc => after_esc(byte),
             State::Gs => after_gs(byte),
+            State::Setting(kind) => setting_parameter(kind, byte),
             State::Parameter(letter) => done(letter.command(byte)),
             State::PulsePin => pulse_pin(byte),
             State::PulseOn { pin } => Next::To(State::PulseOff { pin, on: byte }),
@@ -282,7 +286,8 @@ impl State {
             State::Start => 0,
             State::Dle | State::Esc | State::Gs => 1,
             State::Parameter(letter) => letter.prefix_len(),
-            State::PulsePin
+            State::Setting(_)
+            | State::PulsePin
             | State::CutMode
             | State::Bracket
             | State::BarsMode
@@ -343,6 +348,7 @@ impl State {
             | State::RasterHeight { .. }
             | State::RasterHeightHigh { .. }
             | State::Dots { .. } => FaultReason::BadSize,
+            State::Setting(_) => FaultReason::BadParameter,
             _ => FaultReason::BadParameter,
         }
     }
@@ -382,7 +388,10 @@ fn start(byte: u8) -> Next
         DLE => Next::To(State::Dle),
         ESC => Next::To(State::Esc),
         GS => Next::To(State::Gs),
-        _ => done(Character::new(byte).map(Command::Char)),
+        _ => match Character::new(byte) {
+            Some(character) => Next::Done(Command::Char(character)),
+            None => Next::Refused,
+        },
     }
 }
 
@@ -399,22 +408,11 @@ fn after_esc(byte: u8) -> Next
     ensures { (read : List ℕ) → NextIs result state.Esc read byte }
 {
     match byte {
-        b'!' => Next::To(State::Parameter(OneParameter::Mode)),
-        b'-' => Next::To(State::Parameter(OneParameter::Underline)),
-        b'2' => Next::Done(Command::DefaultSpacing),
-        b'3' => Next::To(State::Parameter(OneParameter::LineSpacing)),
         b'@' => Next::Done(Command::Init),
-        b'E' => Next::To(State::Parameter(OneParameter::Emphasis)),
-        b'G' => Next::To(State::Parameter(OneParameter::DoubleStrike)),
         b'J' => Next::To(State::Parameter(OneParameter::FeedUnits)),
-        b'M' => Next::To(State::Parameter(OneParameter::Font)),
-        b'R' => Next::To(State::Parameter(OneParameter::CharacterSet)),
-        b'a' => Next::To(State::Parameter(OneParameter::Align)),
         b'd' => Next::To(State::Parameter(OneParameter::FeedLines)),
         b'p' => Next::To(State::PulsePin),
-        b't' => Next::To(State::Parameter(OneParameter::Table)),
-        b'{' => Next::To(State::Parameter(OneParameter::UpsideDown)),
-        _ => Next::Refused,
+        _ => after_letters(ESC, byte),
     }
 }
 
@@ -422,19 +420,37 @@ fn after_gs(byte: u8) -> Next
     ensures { (read : List ℕ) → NextIs result state.Gs read byte }
 {
     match byte {
-        b'!' => Next::To(State::Parameter(OneParameter::Size)),
         b'(' => Next::To(State::Bracket),
-        b'B' => Next::To(State::Parameter(OneParameter::Reverse)),
-        b'H' => Next::To(State::Parameter(OneParameter::HriPlace)),
         b'V' => Next::To(State::CutMode),
         b'a' => Next::To(State::Parameter(OneParameter::AutomaticStatus)),
-        b'b' => Next::To(State::Parameter(OneParameter::Smoothing)),
-        b'f' => Next::To(State::Parameter(OneParameter::HriFont)),
-        b'h' => Next::To(State::Parameter(OneParameter::BarHeight)),
         b'k' => Next::To(State::BarsMode),
         b'v' => Next::To(State::RasterFunction),
-        b'w' => Next::To(State::Parameter(OneParameter::BarWidth)),
-        _ => Next::Refused,
+        _ => after_letters(GS, byte),
+    }
+}
+
+// Two bytes that begin no command but a setting.
+fn after_letters(first: u8, second: u8) -> Next
+    requires { IsTrue (part_from (first ∷ second ∷ []) forms) }
+    ensures { (p : State) (read : List ℕ) → prefix_of p ≡ first ∷ [] → tree_of p read ≡ walk grammar (first ∷ []) → has_content p ≡ false → NextIs result p read second }
+{
+    match SettingKind::with_prefix(first, second) {
+        None => Next::Refused,
+        Some(kind) => match Setting::new(kind, None) {
+            Some(setting) => Next::Done(Command::Set(setting)),
+            None => Next::To(State::Setting(kind)),
+        },
+    }
+}
+
+// The parameter of a setting, which ends the command.
+fn setting_parameter(kind: SettingKind, byte: u8) -> Next
+    requires { IsTrue (holds (state.Setting kind)) }
+    ensures { (read : List ℕ) → NextIs result (state.Setting kind) read byte }
+{
+    match Setting::new(kind, Some(byte)) {
+        Some(setting) => Next::Done(Command::Set(setting)),
+        None => Next::Refused,
     }
 }
 

@@ -93,3 +93,15 @@ returns-in-Closes-clause-step c = (
       (spelled tree_law _ _ _ _ _ _ c.as_slice.ensures.value c.self.view_is c.self.invariant.0 c.in-Closes.ensures),
   c.end-in-Closes.ensures.left,
 )
+
+pub invariant_of-self-in-Last : goal.invariant_of-self-in-Last
+invariant_of-self-in-Last c = (
+  subst (λ v. IsAt Start v) (sym c.end.ensures.left) at_start,
+  (let fits : vec_len c.end.new.content ≤ vec_capacity c.end.new.content = c.end.new.content.ok.1 in omega (arith, fits)),
+)
+
+pub invariant_of-self-in-Closes : goal.invariant_of-self-in-Closes
+invariant_of-self-in-Closes c = (
+  subst (λ v. IsAt Start v) (sym c.end-in-Closes.ensures.left) at_start,
+  (let fits : vec_len c.end-in-Closes.new.content ≤ vec_capacity c.end-in-Closes.new.content = c.end-in-Closes.new.content.ok.1 in omega (arith, fits)),
+)
