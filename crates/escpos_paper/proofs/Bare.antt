@@ -6,7 +6,8 @@
 use Rattle.std.proofs.Common.{◌≡◌, ℕ, List, [], ◌∷◌, ◌++◌, refl, sym, ◌∙◌, ap, subst, append-nil, Bool, true, false, cond}
 use Rattle.std.proofs.Math.Seq.{append_snoc}
 use Rattle.escpos_command.specs.declared.command.Command.{Command}
-use Rattle.escpos_command.specs.declared.command.Command.TheVariants.{Char, LineFeed, Init, FeedLines, FeedUnits, Bars, Raster, Cut, Align, UpsideDown, QrPrint}
+use Rattle.escpos_command.specs.declared.command.Command.TheVariants.{Char, LineFeed, Init, FeedLines, FeedUnits, Bars, Raster, Cut, Set, QrPrint}
+use Rattle.escpos_command.specs.declared.setting.SettingKind.TheVariants as sets
 use Rattle.escpos_command.specs.CommandTable.{IsCommand, AreCommands}
 use Rattle.escpos_command.specs.Text.{is_some}
 use Rattle.std.specs.Prelude.{Option, Some, None}
@@ -107,10 +108,10 @@ quiet_step w s QrPrint q k = prints_or_not w s s.stored refl q k
 quiet_step w s Init q k =
     let same = ap (λ v. with (sheet_after s Init) [] v []) (same_lines (is_empty s.line) (line_style_after true s.line_style Init)) in
     (one_step w (blank s) (bare (sheet_after s Init)) Init same k q.1, one_step w (blank s) (blank (sheet_after s Init)) Init same k q.1)
-quiet_step w s (Align n) q k =
-    (one_step w (bare s) (bare (sheet_after s (Align n))) (Align n) refl k q.0, acts w s (Align n) (is_empty s.line) refl refl refl refl q k)
-quiet_step w s (UpsideDown n) q k =
-    (one_step w (bare s) (bare (sheet_after s (UpsideDown n))) (UpsideDown n) refl k q.0, acts w s (UpsideDown n) (is_empty s.line) refl refl refl refl q k)
+quiet_step w s (Set (sets.Align, p)) q k =
+    (one_step w (bare s) (bare (sheet_after s (Set (sets.Align, p)))) (Set (sets.Align, p)) refl k q.0, acts w s (Set (sets.Align, p)) (is_empty s.line) refl refl refl refl q k)
+quiet_step w s (Set (sets.UpsideDown, p)) q k =
+    (one_step w (bare s) (bare (sheet_after s (Set (sets.UpsideDown, p)))) (Set (sets.UpsideDown, p)) refl k q.0, acts w s (Set (sets.UpsideDown, p)) (is_empty s.line) refl refl refl refl q k)
 quiet_step w s c q k = (
   one_step w (bare s) (bare (sheet_after s c)) c refl k q.0,
   one_step w (blank s) (blank (sheet_after s c)) c

@@ -4,8 +4,10 @@ use Rattle.std.specs.Prelude.{nat_lt, Option, None}
 use Rattle.std.specs.List.{AllByRecursion}
 use Rattle.escpos_command.specs.declared.command.Command.{Command}
 use Rattle.escpos_command.specs.declared.command.Command.TheVariants as kind
+use Rattle.escpos_command.specs.declared.setting.SettingKind.TheVariants as sets
 use Rattle.escpos_command.specs.FirstProfile.{in_first_profile}
 use Rattle.escpos_command.specs.SecondProfile.{in_second_profile}
+use Rattle.escpos_command.specs.SettingTable.{table}
 use Rattle.escpos_command.specs.Settings.{stored}
 use Rattle.escpos_paper.specs.declared.cell.Cell.{Cell}
 use Rattle.escpos_paper.specs.declared.item.Item.{Item}
@@ -40,13 +42,10 @@ record IsSecond (w : ℕ) (cs : List Command) : Type 0 where
   plain : IsPlain (line_style cs)
 
 style_stays : (s : Style) (c : Command) → IsTrue (in_second_profile c) → IsTrue (has_six_fields s) → IsTrue (has_six_fields (style_after s c))
-style_stays s (kind.DoubleStrike n) k h = absurd cc
-style_stays s (kind.CharacterSet n) k h = absurd cc
-style_stays s (kind.Reverse n) k h = absurd cc
-style_stays s (kind.Smoothing n) k h = absurd cc
-style_stays s (kind.UpsideDown n) k h = absurd cc
-style_stays s (kind.LineSpacing n) k h = absurd cc
-style_stays s kind.DefaultSpacing k h = absurd cc
+unfolding table
+style_stays s (kind.Set (sets.DoubleStrike, p)) k h = absurd cc
+style_stays s (kind.Set (sets.CharacterSet, p)) k h = absurd cc
+style_stays s (kind.Set (sets.Reverse, p)) k h = absurd cc
 style_stays s (kind.QrModel n) k h = absurd cc
 style_stays s (kind.QrSize n) k h = absurd cc
 style_stays s (kind.QrLevel n) k h = absurd cc
@@ -76,13 +75,10 @@ line_stays w s old_data row kind.QrPrint i h k = absurd cc
 line_stays w s old_data row c i h k = k
 
 lines_stay : (is_line_empty : Bool) (lines : LineStyle) (c : Command) → IsTrue (in_second_profile c) → IsPlain lines → IsPlain (line_style_after is_line_empty lines c)
-lines_stay e lines (kind.DoubleStrike n) k h = absurd cc
-lines_stay e lines (kind.CharacterSet n) k h = absurd cc
-lines_stay e lines (kind.Reverse n) k h = absurd cc
-lines_stay e lines (kind.Smoothing n) k h = absurd cc
-lines_stay e lines (kind.UpsideDown n) k h = absurd cc
-lines_stay e lines (kind.LineSpacing n) k h = absurd cc
-lines_stay e lines kind.DefaultSpacing k h = absurd cc
+unfolding table
+lines_stay e lines (kind.Set (sets.UpsideDown, p)) k h = absurd cc
+lines_stay e lines (kind.Set (sets.LineSpacing, p)) k h = absurd cc
+lines_stay e lines (kind.Set (sets.DefaultSpacing, p)) k h = absurd cc
 lines_stay e lines (kind.QrModel n) k h = absurd cc
 lines_stay e lines (kind.QrSize n) k h = absurd cc
 lines_stay e lines (kind.QrLevel n) k h = absurd cc

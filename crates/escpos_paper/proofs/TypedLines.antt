@@ -1,9 +1,10 @@
 -- Characters that fit on the line print nothing, and LF prints them.
-use Rattle.std.proofs.Common.{◌≡◌, ℕ, List, [], ◌∷◌, ◌++◌, refl, sym, ap, subst, ◌∙◌, append-nil, Bool, true, false, cond}
+use Rattle.std.proofs.Common.{◌≡◌, ℕ, List, [], ◌∷◌, ◌++◌, refl, sym, ap, subst, ◌∙◌, append-nil, Bool, true, false, cond, Option}
 use Rattle.std.specs.List.{AllByRecursion}
 use Rattle.std.proofs.Math.Seq.{append_snoc}
 use Rattle.escpos_command.specs.declared.command.Command.{Command}
-use Rattle.escpos_command.specs.declared.command.Command.TheVariants.{Char, LineFeed, Table}
+use Rattle.escpos_command.specs.declared.command.Command.TheVariants.{Char, LineFeed, Set}
+use Rattle.escpos_command.specs.declared.setting.SettingKind.TheVariants as sets
 use Rattle.escpos_paper.specs.declared.item.Item.TheVariants.{Feed}
 use Rattle.escpos_paper.specs.declared.style.LineStyle.{LineStyle}
 use Rattle.escpos_paper.specs.Styles.{is_empty, style, line_style}
@@ -20,9 +21,9 @@ char_keeps : (empty : Bool) (lines : LineStyle) (b : ℕ) → line_style_after e
 char_keeps true lines b = refl
 char_keeps false lines b = refl
 
-table_keeps : (empty : Bool) (lines : LineStyle) (n : ℕ) → line_style_after empty lines (Table n) ≡ lines
-table_keeps true lines n = refl
-table_keeps false lines n = refl
+table_keeps : (empty : Bool) (lines : LineStyle) (p : Option ℕ) → line_style_after empty lines (Set (sets.Table, p)) ≡ lines
+table_keeps true lines p = refl
+table_keeps false lines p = refl
 
 feed_keeps : (empty : Bool) (lines : LineStyle) → line_style_after empty lines LineFeed ≡ lines
 feed_keeps true lines = refl
@@ -37,11 +38,11 @@ one_char w before b h = record {
   same_lines = line_style_step w before (Char b) ∙ char_keeps (is_empty (line w before)) (line_style before) b;
 }
 
-one_table : (w : ℕ) (before : List Command) (n : ℕ) → GoesOnLine w before (Table n ∷ [])
-one_table w before n = record {
-  prints_nothing = printed-snoc w before (Table n) ∙ append-nil (printed w before);
-  stands = line-snoc w before (Table n) ∙ sym (append-nil (line w before));
-  same_lines = line_style_step w before (Table n) ∙ table_keeps (is_empty (line w before)) (line_style before) n;
+one_table : (w : ℕ) (before : List Command) (p : Option ℕ) → GoesOnLine w before (Set (sets.Table, p) ∷ [])
+one_table w before p = record {
+  prints_nothing = printed-snoc w before (Set (sets.Table, p)) ∙ append-nil (printed w before);
+  stands = line-snoc w before (Set (sets.Table, p)) ∙ sym (append-nil (line w before));
+  same_lines = line_style_step w before (Set (sets.Table, p)) ∙ table_keeps (is_empty (line w before)) (line_style before) p;
 }
 
 -- Any number of them.
@@ -64,13 +65,13 @@ typed_line w before (Char b ∷ cs) h fit =
       stands = ap (line w) (sym whole) ∙ rest.stands ∙ ap (λ r. r ++ more) one.stands ∙ append_snoc row x more;
       same_lines = ap line_style (sym whole) ∙ rest.same_lines ∙ one.same_lines;
     }
-typed_line w before (Table n ∷ cs) h fit =
+typed_line w before (Set (sets.Table, p) ∷ cs) h fit =
     let row = line w before in
-    let more = typed (before ++ Table n ∷ []) cs in
-    let one = one_table w before n in
-    let whole = append_snoc before (Table n) cs in
-    let kept : line w (before ++ Table n ∷ []) ≡ row = one.stands ∙ append-nil row in
-    let rest = typed_line w (before ++ Table n ∷ []) cs h.1 (subst (λ r. fits w (r ++ more) ≡ true) (sym kept) fit) in
+    let more = typed (before ++ Set (sets.Table, p) ∷ []) cs in
+    let one = one_table w before p in
+    let whole = append_snoc before (Set (sets.Table, p)) cs in
+    let kept : line w (before ++ Set (sets.Table, p) ∷ []) ≡ row = one.stands ∙ append-nil row in
+    let rest = typed_line w (before ++ Set (sets.Table, p) ∷ []) cs h.1 (subst (λ r. fits w (r ++ more) ≡ true) (sym kept) fit) in
     record {
       prints_nothing = ap (printed w) (sym whole) ∙ rest.prints_nothing ∙ one.prints_nothing;
       stands = ap (line w) (sym whole) ∙ rest.stands ∙ ap (λ r. r ++ more) kept;

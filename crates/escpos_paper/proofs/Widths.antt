@@ -2,9 +2,11 @@
 use Rattle.std.proofs.Common.{ℕ, ◌≤◌, List, [], ◌∷◌, arith, Bool, true, false}
 use Rattle.std.specs.Prelude.{filter_map}
 use Rattle.escpos_command.specs.declared.command.Command.{Command}
-use Rattle.escpos_command.specs.declared.command.Command.TheVariants.{Mode, Size}
+use Rattle.escpos_command.specs.declared.command.Command.TheVariants.{Set}
+use Rattle.escpos_command.specs.declared.setting.SettingKind.TheVariants as sets
 use Rattle.escpos_command.specs.Meanings.{magnified, has_bit, size_width}
 use Rattle.escpos_paper.specs.Styles.{sets_width, style}
+use Rattle.escpos_command.specs.SettingTable.{value}
 use Rattle.escpos_command.specs.Settings.{after_init, last_or}
 
 -- A width factor is 1 to 8.
@@ -21,8 +23,8 @@ size_in_range n = record { least = omega arith; most = omega arith }
 
 last_in_range : (start : ℕ) (cs : List Command) → IsWidth start → IsWidth (last_or start (filter_map sets_width cs))
 last_in_range start [] h = h
-last_in_range start (Mode n ∷ cs) h = last_in_range (magnified (has_bit n 5)) cs (magnified_width (has_bit n 5))
-last_in_range start (Size n ∷ cs) h = last_in_range (size_width n) cs (size_in_range n)
+last_in_range start (Set (sets.Mode, p) ∷ cs) h = last_in_range (magnified (has_bit (value p) 5)) cs (magnified_width (has_bit (value p) 5))
+last_in_range start (Set (sets.Size, p) ∷ cs) h = last_in_range (size_width (value p)) cs (size_in_range (value p))
 last_in_range start (c ∷ cs) h = last_in_range start cs h
 
 pub width_in_range : (cs : List Command) → IsWidth ((style cs).width)

@@ -1,7 +1,10 @@
 -- Worked rows, computed from the definitions alone.
-use Rattle.std.proofs.Common.{◌≡◌, [], ◌∷◌, ◌++◌, refl, ap, true, false}
+use Rattle.std.proofs.Common.{◌≡◌, ℕ, [], ◌∷◌, ◌++◌, refl, ap, true, false}
 use Rattle.std.specs.Prelude.{None, Some, replicate, map, length}
-use Rattle.escpos_command.specs.declared.command.Command.TheVariants.{Char, LineFeed, Init, Mode, Emphasis, DoubleStrike, CharacterSet, Reverse, UpsideDown, LineSpacing, DefaultSpacing, Font, Align, FeedLines, FeedUnits, Pulse, Size, BarHeight, BarWidth, HriPlace, HriFont, Bars, Raster, Cut}
+use Rattle.escpos_command.specs.declared.command.Command.{Command}
+use Rattle.escpos_command.specs.declared.setting.SettingKind.{SettingKind}
+use Rattle.escpos_command.specs.declared.command.Command.TheVariants.{Char, LineFeed, Init, Set, FeedLines, FeedUnits, Pulse, Bars, Raster, Cut}
+use Rattle.escpos_command.specs.declared.setting.SettingKind.TheVariants as sets
 use Rattle.escpos_command.specs.declared.parameter.choices.FontFace.TheVariants.{A, B}
 use Rattle.escpos_command.specs.declared.parameter.choices.HriPosition.TheVariants.{Nowhere, Below}
 use Rattle.escpos_command.specs.declared.parameter.choices.Scale.TheVariants.{Normal}
@@ -23,61 +26,65 @@ use Rattle.std.specs.Prelude.{codes}
 use Rattle.std.specs.Fmt.{digits}
 use Rattle.hex.specs.Hex.{encode_with}
 
+-- A setting with a parameter.
+abbrev set : SettingKind → ℕ → Command
+set which n = Set (which, Some n)
+
 -- Init, H, i, LF, a cut
 five_commands : printed 512 (Init ∷ Char 0x48 ∷ Char 0x69 ∷ LineFeed ∷ Cut (0, None) ∷ [])
     ≡ Row Left false (cell power_on 0x48 ∷ cell power_on 0x69 ∷ []) ∷ Feed 1 None ∷ Cutting false None ∷ []
 five_commands = refl
 
 -- an Align in mid-line has no effect, one on an empty line has one
-align_in_mid_line : printed 512 (Char 0x41 ∷ Char 0x42 ∷ Align 1 ∷ Char 0x43 ∷ LineFeed ∷ Align 1 ∷ Char 0x44 ∷ LineFeed ∷ [])
+align_in_mid_line : printed 512 (Char 0x41 ∷ Char 0x42 ∷ set sets.Align 1 ∷ Char 0x43 ∷ LineFeed ∷ set sets.Align 1 ∷ Char 0x44 ∷ LineFeed ∷ [])
     ≡ Row Left false (cell power_on 0x41 ∷ cell power_on 0x42 ∷ cell power_on 0x43 ∷ []) ∷ Feed 1 None ∷ Row Center false (cell power_on 0x44 ∷ []) ∷ Feed 1 None ∷ []
 align_in_mid_line = refl
 
 -- emphasis set in mid-line is that of the characters after it
-emphasis_in_mid_line : printed 512 (Emphasis 1 ∷ Char 0x41 ∷ Emphasis 0 ∷ Char 0x42 ∷ LineFeed ∷ [])
+emphasis_in_mid_line : printed 512 (set sets.Emphasis 1 ∷ Char 0x41 ∷ set sets.Emphasis 0 ∷ Char 0x42 ∷ LineFeed ∷ [])
     ≡ Row Left false (cell (record power_on { bold = true }) 0x41 ∷ cell power_on 0x42 ∷ []) ∷ Feed 1 None ∷ []
 emphasis_in_mid_line = refl
 
 -- ESC ! B9: font B, emphasis, double height and width, underline
-mode : printed 512 (Mode 0xB9 ∷ Char 0x41 ∷ LineFeed ∷ [])
+mode : printed 512 (set sets.Mode 0xB9 ∷ Char 0x41 ∷ LineFeed ∷ [])
     ≡ Row Left false (cell (record power_on { font = B; width = 2; height = 2; bold = true; underline = 1 }) 0x41 ∷ []) ∷ Feed 1 None ∷ []
 mode = refl
 
 -- strike, reverse and a character set are those of the characters after them, beside emphasis
-strike_in_mid_line : printed 512 (Emphasis 1 ∷ DoubleStrike 1 ∷ Char 0x41 ∷ DoubleStrike 2 ∷ Char 0x42 ∷ LineFeed ∷ [])
+strike_in_mid_line : printed 512 (set sets.Emphasis 1 ∷ set sets.DoubleStrike 1 ∷ Char 0x41 ∷ set sets.DoubleStrike 2 ∷ Char 0x42 ∷ LineFeed ∷ [])
     ≡ Row Left false (cell (record power_on { bold = true; strike = true }) 0x41 ∷ cell (record power_on { bold = true }) 0x42 ∷ []) ∷ Feed 1 None ∷ []
 strike_in_mid_line = refl
 
-reverse_and_set : printed 512 (Reverse 0xFF ∷ CharacterSet 8 ∷ Char 0x41 ∷ Init ∷ Char 0x42 ∷ LineFeed ∷ [])
+reverse_and_set : printed 512 (set sets.Reverse 0xFF ∷ set sets.CharacterSet 8 ∷ Char 0x41 ∷ Init ∷ Char 0x42 ∷ LineFeed ∷ [])
     ≡ Row Left false (cell power_on 0x42 ∷ []) ∷ Feed 1 None ∷ []
 reverse_and_set = refl
 
 -- lines are turned upside down at their beginning alone
-upside_down : printed 512 (Char 0x41 ∷ UpsideDown 1 ∷ LineFeed ∷ UpsideDown 1 ∷ Char 0x42 ∷ UpsideDown 0 ∷ LineFeed ∷ [])
+upside_down : printed 512 (Char 0x41 ∷ set sets.UpsideDown 1 ∷ LineFeed ∷ set sets.UpsideDown 1 ∷ Char 0x42 ∷ set sets.UpsideDown 0 ∷ LineFeed ∷ [])
     ≡ Row Left false (cell power_on 0x41 ∷ []) ∷ Feed 1 None ∷ Row Left true (cell power_on 0x42 ∷ []) ∷ Feed 1 None ∷ []
 upside_down = refl
 
 -- a spacing is that of the feeds after it, also in mid-line, until ESC 2 or Init
-spacing : printed 512 (Char 0x41 ∷ LineSpacing 60 ∷ LineFeed ∷ FeedLines 3 ∷ DefaultSpacing ∷ LineFeed ∷ LineSpacing 0 ∷ LineFeed ∷ Init ∷ LineFeed ∷ [])
+spacing : printed 512 (Char 0x41 ∷ set sets.LineSpacing 60 ∷ LineFeed ∷ FeedLines 3 ∷ Set (sets.DefaultSpacing, None) ∷ LineFeed ∷ set sets.LineSpacing 0 ∷ LineFeed ∷ Init ∷ LineFeed ∷ [])
     ≡ Row Left false (cell power_on 0x41 ∷ []) ∷ Feed 1 (Some 60) ∷ Feed 3 (Some 60) ∷ Feed 1 None ∷ Feed 1 (Some 0) ∷ Feed 1 None ∷ []
 spacing = refl
 
 -- bit 0 alone switches strike and lines upside down
-by_bit_0 : printed 512 (DoubleStrike 3 ∷ UpsideDown 0xFF ∷ Char 0x41 ∷ DoubleStrike 0xFE ∷ LineFeed ∷ UpsideDown 0xFE ∷ Char 0x42 ∷ LineFeed ∷ [])
+by_bit_0 : printed 512 (set sets.DoubleStrike 3 ∷ set sets.UpsideDown 0xFF ∷ Char 0x41 ∷ set sets.DoubleStrike 0xFE ∷ LineFeed ∷ set sets.UpsideDown 0xFE ∷ Char 0x42 ∷ LineFeed ∷ [])
     ≡ Row Left true (cell (record power_on { strike = true }) 0x41 ∷ []) ∷ Feed 1 None ∷ Row Left false (cell power_on 0x42 ∷ []) ∷ Feed 1 None ∷ []
 by_bit_0 = refl
 
 -- a line that ESC J prints is upside down, too, and the feed before a barcode or a raster has its spacing
-upside_down_by_units : printed 512 (UpsideDown 1 ∷ Char 0x41 ∷ FeedUnits 5 ∷ []) ≡ Row Left true (cell power_on 0x41 ∷ []) ∷ Units 5 ∷ []
+upside_down_by_units : printed 512 (set sets.UpsideDown 1 ∷ Char 0x41 ∷ FeedUnits 5 ∷ []) ≡ Row Left true (cell power_on 0x41 ∷ []) ∷ Units 5 ∷ []
 upside_down_by_units = refl
 
-spacing_before_items : printed 512 (LineSpacing 10 ∷ Char 0x41 ∷ Bars (barcode form.B Itf (codes "12")) ∷ Char 0x42 ∷ Raster (picture 0 1 1 (0xFF ∷ [])) ∷ [])
+spacing_before_items : printed 512 (set sets.LineSpacing 10 ∷ Char 0x41 ∷ Bars (barcode form.B Itf (codes "12")) ∷ Char 0x42 ∷ Raster (picture 0 1 1 (0xFF ∷ [])) ∷ [])
     ≡ Row Left false (cell power_on 0x41 ∷ []) ∷ Feed 1 (Some 10) ∷ Barred Left Itf 162 3 Nowhere A (codes "12") None
     ∷ Row Left false (cell power_on 0x42 ∷ []) ∷ Feed 1 (Some 10) ∷ Dotted Left Normal 1 1 (0xFF ∷ []) ∷ []
 spacing_before_items = refl
 
 -- an Align in mid-line has no effect on the next line either
-align_lost : printed 512 (Char 0x41 ∷ Align 1 ∷ LineFeed ∷ Char 0x42 ∷ LineFeed ∷ [])
+align_lost : printed 512 (Char 0x41 ∷ set sets.Align 1 ∷ LineFeed ∷ Char 0x42 ∷ LineFeed ∷ [])
     ≡ Row Left false (cell power_on 0x41 ∷ []) ∷ Feed 1 None ∷ Row Left false (cell power_on 0x42 ∷ []) ∷ Feed 1 None ∷ []
 align_lost = refl
 
@@ -131,7 +138,7 @@ ean13 : printed 512 (Bars (barcode form.A Ean13 (codes "400638133393")) ∷ Bars
 ean13 = refl
 
 -- the settings of barcodes, and those after Init
-bar_settings : printed 512 (BarHeight 50 ∷ BarWidth 2 ∷ HriPlace 50 ∷ HriFont 49 ∷ Bars (barcode form.B Itf (codes "12")) ∷ Init ∷ Bars (barcode form.B Itf (codes "12")) ∷ [])
+bar_settings : printed 512 (set sets.BarHeight 50 ∷ set sets.BarWidth 2 ∷ set sets.HriPlace 50 ∷ set sets.HriFont 49 ∷ Bars (barcode form.B Itf (codes "12")) ∷ Init ∷ Bars (barcode form.B Itf (codes "12")) ∷ [])
     ≡ Barred Left Itf 50 2 Below B (codes "12") None ∷ Barred Left Itf 162 3 Nowhere A (codes "12") None ∷ []
 bar_settings = refl
 
@@ -141,7 +148,7 @@ raster_after_text : printed 512 (Char 0x41 ∷ Raster (picture 0 1 1 (0xFF ∷ [
 raster_after_text = refl
 
 -- at width 8 five characters of font A fit, and the sixth begins a row
-wide : printed 512 (Size 0x70 ∷ replicate 6 (Char 0x61) ++ LineFeed ∷ [])
+wide : printed 512 (set sets.Size 0x70 ∷ replicate 6 (Char 0x61) ++ LineFeed ∷ [])
     ≡ (let x = cell (record power_on { width = 8 }) 0x61 in
     Row Left false (x ∷ x ∷ x ∷ x ∷ x ∷ []) ∷ Feed 1 None ∷ Row Left false (x ∷ []) ∷ Feed 1 None ∷ [])
 wide = refl
@@ -151,15 +158,15 @@ wide = refl
 font_a : map length (rows 512 (replicate 43 (Char 0x61))) ≡ 42 ∷ 1 ∷ []
 font_a = ap (map length) (rows_filled 512 (replicate 43 (Char 0x61)))
 
-font_b : map length (rows 512 (Font 1 ∷ replicate 57 (Char 0x61))) ≡ 56 ∷ 1 ∷ []
-font_b = ap (map length) (rows_filled 512 (Font 1 ∷ replicate 57 (Char 0x61)))
+font_b : map length (rows 512 (set sets.Font 1 ∷ replicate 57 (Char 0x61))) ≡ 56 ∷ 1 ∷ []
+font_b = ap (map length) (rows_filled 512 (set sets.Font 1 ∷ replicate 57 (Char 0x61)))
 
 -- other widths: 384 dots, 576 and the most, 1,024
 narrow_paper : map length (rows 384 (replicate 33 (Char 0x61))) ≡ 32 ∷ 1 ∷ []
 narrow_paper = ap (map length) (rows_filled 384 (replicate 33 (Char 0x61)))
 
-narrow_paper_double : map length (rows 384 (Size 0x10 ∷ replicate 17 (Char 0x61))) ≡ 16 ∷ 1 ∷ []
-narrow_paper_double = ap (map length) (rows_filled 384 (Size 0x10 ∷ replicate 17 (Char 0x61)))
+narrow_paper_double : map length (rows 384 (set sets.Size 0x10 ∷ replicate 17 (Char 0x61))) ≡ 16 ∷ 1 ∷ []
+narrow_paper_double = ap (map length) (rows_filled 384 (set sets.Size 0x10 ∷ replicate 17 (Char 0x61)))
 
 wide_paper : map length (rows 576 (replicate 49 (Char 0x61))) ≡ 48 ∷ 1 ∷ []
 wide_paper = ap (map length) (rows_filled 576 (replicate 49 (Char 0x61)))
@@ -167,16 +174,16 @@ wide_paper = ap (map length) (rows_filled 576 (replicate 49 (Char 0x61)))
 widest_paper : map length (rows 1024 (replicate 86 (Char 0x61))) ≡ 85 ∷ 1 ∷ []
 widest_paper = ap (map length) (rows_filled 1024 (replicate 86 (Char 0x61)))
 
-widest_paper_font_b : map length (rows 1024 (Font 1 ∷ replicate 114 (Char 0x61))) ≡ 113 ∷ 1 ∷ []
-widest_paper_font_b = ap (map length) (rows_filled 1024 (Font 1 ∷ replicate 114 (Char 0x61)))
+widest_paper_font_b : map length (rows 1024 (set sets.Font 1 ∷ replicate 114 (Char 0x61))) ≡ 113 ∷ 1 ∷ []
+widest_paper_font_b = ap (map length) (rows_filled 1024 (set sets.Font 1 ∷ replicate 114 (Char 0x61)))
 
 -- in a line of one dot each character has a row of its own
-one_dot : printed 1 (Char 0x41 ∷ Font 1 ∷ Char 0x42 ∷ LineFeed ∷ [])
+one_dot : printed 1 (Char 0x41 ∷ set sets.Font 1 ∷ Char 0x42 ∷ LineFeed ∷ [])
     ≡ Row Left false (cell power_on 0x41 ∷ []) ∷ Feed 1 None ∷ Row Left false (cell (record power_on { font = B }) 0x42 ∷ []) ∷ Feed 1 None ∷ []
 one_dot = refl
 
 -- a character that is wider than the line has a row of its own, and those around it stand side by side where they fit
-too_wide_for_the_line : map length (rows 20 (Font 1 ∷ Char 0x41 ∷ Char 0x42 ∷ Size 0x70 ∷ Char 0x43 ∷ Size 0 ∷ Char 0x44 ∷ Char 0x45 ∷ [])) ≡ 2 ∷ 1 ∷ 2 ∷ []
+too_wide_for_the_line : map length (rows 20 (set sets.Font 1 ∷ Char 0x41 ∷ Char 0x42 ∷ set sets.Size 0x70 ∷ Char 0x43 ∷ set sets.Size 0 ∷ Char 0x44 ∷ Char 0x45 ∷ [])) ≡ 2 ∷ 1 ∷ 2 ∷ []
 too_wide_for_the_line = refl
 
 -- Init changes no width
@@ -189,22 +196,22 @@ five_commands_text : items_text (printed 512 (Init ∷ Char 0x48 ∷ Char 0x69 �
 unfolding digits
 five_commands_text = refl
 
-emphasis_text : items_text (printed 512 (Emphasis 1 ∷ Char 0x41 ∷ Emphasis 0 ∷ Char 0x42 ∷ LineFeed ∷ []))
+emphasis_text : items_text (printed 512 (set sets.Emphasis 1 ∷ Char 0x41 ∷ set sets.Emphasis 0 ∷ Char 0x42 ∷ LineFeed ∷ []))
     ≡ codes "row left [A,1,1,1,0,0]A[A,1,1,0,0,0]B" ++ 10 ∷ [] ++ codes "feed 1" ++ 10 ∷ []
 unfolding digits
 emphasis_text = refl
 
-strike_text : items_text (printed 512 (DoubleStrike 1 ∷ Char 0x41 ∷ DoubleStrike 0 ∷ Char 0x42 ∷ Reverse 1 ∷ CharacterSet 17 ∷ Char 0x43 ∷ LineFeed ∷ []))
+strike_text : items_text (printed 512 (set sets.DoubleStrike 1 ∷ Char 0x41 ∷ set sets.DoubleStrike 0 ∷ Char 0x42 ∷ set sets.Reverse 1 ∷ set sets.CharacterSet 17 ∷ Char 0x43 ∷ LineFeed ∷ []))
     ≡ codes "row left [A,1,1,0,0,0,1,0,0]A[A,1,1,0,0,0]B[A,1,1,0,0,0,0,1,17]C" ++ 10 ∷ [] ++ codes "feed 1" ++ 10 ∷ []
 unfolding digits
 strike_text = refl
 
-upside_down_text : items_text (printed 512 (UpsideDown 1 ∷ LineSpacing 40 ∷ Char 0x41 ∷ LineFeed ∷ []))
+upside_down_text : items_text (printed 512 (set sets.UpsideDown 1 ∷ set sets.LineSpacing 40 ∷ Char 0x41 ∷ LineFeed ∷ []))
     ≡ codes "row left upside A" ++ 10 ∷ [] ++ codes "feed 1 spacing 40" ++ 10 ∷ []
 unfolding digits
 upside_down_text = refl
 
-mode_text : items_text (printed 512 (Mode 0xB9 ∷ Char 0x41 ∷ LineFeed ∷ []))
+mode_text : items_text (printed 512 (set sets.Mode 0xB9 ∷ Char 0x41 ∷ LineFeed ∷ []))
     ≡ codes "row left [B,2,2,1,1,0]A" ++ 10 ∷ [] ++ codes "feed 1" ++ 10 ∷ []
 unfolding digits
 mode_text = refl
@@ -219,6 +226,6 @@ ean13_text : items_text (printed 512 (Bars (barcode form.A Ean13 (codes "4006381
 unfolding digits
 ean13_text = refl
 
-raster_text : items_text (printed 512 (Align 2 ∷ Raster (picture 50 1 1 (0xA5 ∷ [])) ∷ [])) ≡ codes "raster right tall 1 1 a5" ++ 10 ∷ []
+raster_text : items_text (printed 512 (set sets.Align 2 ∷ Raster (picture 50 1 1 (0xA5 ∷ [])) ∷ [])) ≡ codes "raster right tall 1 1 a5" ++ 10 ∷ []
 unfolding digits encode_with
 raster_text = refl

@@ -5,6 +5,7 @@ use Rattle.std.specs.Prelude.{ℕ, ◌==◌, ◌&&◌, not, Bool, true, false, L
 use Rattle.std.specs.Option.{unwrap_or}
 use Rattle.escpos_command.specs.declared.command.Command.{Command}
 use Rattle.escpos_command.specs.declared.command.Command.TheVariants as kind
+use Rattle.escpos_command.specs.declared.setting.SettingKind.TheVariants as sets
 use Rattle.escpos_command.specs.declared.parameter.choices.FontFace.{FontFace}
 use Rattle.escpos_command.specs.declared.parameter.choices.FontFace.TheVariants.{A, B}
 use Rattle.escpos_command.specs.declared.parameter.choices.Alignment.{Alignment}
@@ -15,6 +16,7 @@ use Rattle.escpos_command.specs.declared.parameter.choices.HriPosition.{HriPosit
 use Rattle.escpos_command.specs.declared.parameter.choices.HriPosition.TheVariants.{Nowhere}
 use Rattle.escpos_command.specs.Meanings.{has_bit, choice, face_of, alignment_of, hri_position_of, face_of_mode, magnified, underline_of_mode, size_width, size_height, model_number, correction_of}
 use Rattle.escpos_command.specs.Settings.{is_init, setting}
+use Rattle.escpos_command.specs.SettingTable.{value}
 use Rattle.escpos_command.specs.Text.{text}
 use Rattle.escpos_paper.specs.declared.style.Style.{Style}
 use Rattle.escpos_paper.specs.declared.style.BarStyle.{BarStyle}
@@ -24,74 +26,74 @@ use Rattle.escpos_paper.specs.OverPlaces.{over_places}
 
 -- Which commands set an attribute, and to what. ESC ! sets attributes that each have a command of their own, too.
 abbrev pub sets_table : Command → Option ℕ
-sets_table (kind.Table n) = Some n
+sets_table (kind.Set (sets.Table, p)) = Some (value p)
 sets_table _ = None
 
 abbrev pub sets_font : Command → Option FontFace
-sets_font (kind.Mode n) = Some (face_of_mode n)
-sets_font (kind.Font n) = Some (face_of (choice n))
+sets_font (kind.Set (sets.Mode, p)) = Some (face_of_mode (value p))
+sets_font (kind.Set (sets.Font, p)) = Some (face_of (choice (value p)))
 sets_font _ = None
 
 abbrev pub sets_width : Command → Option ℕ
-sets_width (kind.Mode n) = Some (magnified (has_bit n 5))
-sets_width (kind.Size n) = Some (size_width n)
+sets_width (kind.Set (sets.Mode, p)) = Some (magnified (has_bit (value p) 5))
+sets_width (kind.Set (sets.Size, p)) = Some (size_width (value p))
 sets_width _ = None
 
 abbrev pub sets_height : Command → Option ℕ
-sets_height (kind.Mode n) = Some (magnified (has_bit n 4))
-sets_height (kind.Size n) = Some (size_height n)
+sets_height (kind.Set (sets.Mode, p)) = Some (magnified (has_bit (value p) 4))
+sets_height (kind.Set (sets.Size, p)) = Some (size_height (value p))
 sets_height _ = None
 
 abbrev pub sets_bold : Command → Option Bool
-sets_bold (kind.Mode n) = Some (has_bit n 3)
-sets_bold (kind.Emphasis n) = Some (has_bit n 0)
+sets_bold (kind.Set (sets.Mode, p)) = Some (has_bit (value p) 3)
+sets_bold (kind.Set (sets.Emphasis, p)) = Some (has_bit (value p) 0)
 sets_bold _ = None
 
 abbrev pub sets_underline : Command → Option ℕ
-sets_underline (kind.Mode n) = Some (underline_of_mode n)
-sets_underline (kind.Underline n) = Some (choice n)
+sets_underline (kind.Set (sets.Mode, p)) = Some (underline_of_mode (value p))
+sets_underline (kind.Set (sets.Underline, p)) = Some (choice (value p))
 sets_underline _ = None
 
 abbrev pub sets_strike : Command → Option Bool
-sets_strike (kind.DoubleStrike n) = Some (has_bit n 0)
+sets_strike (kind.Set (sets.DoubleStrike, p)) = Some (has_bit (value p) 0)
 sets_strike _ = None
 
 abbrev pub sets_reverse : Command → Option Bool
-sets_reverse (kind.Reverse n) = Some (has_bit n 0)
+sets_reverse (kind.Set (sets.Reverse, p)) = Some (has_bit (value p) 0)
 sets_reverse _ = None
 
 abbrev pub sets_character_set : Command → Option ℕ
-sets_character_set (kind.CharacterSet n) = Some n
+sets_character_set (kind.Set (sets.CharacterSet, p)) = Some (value p)
 sets_character_set _ = None
 
 abbrev pub sets_alignment : Command → Option Alignment
-sets_alignment (kind.Align n) = Some (alignment_of (choice n))
+sets_alignment (kind.Set (sets.Align, p)) = Some (alignment_of (choice (value p)))
 sets_alignment _ = None
 
 abbrev pub sets_upside_down : Command → Option Bool
-sets_upside_down (kind.UpsideDown n) = Some (has_bit n 0)
+sets_upside_down (kind.Set (sets.UpsideDown, p)) = Some (has_bit (value p) 0)
 sets_upside_down _ = None
 
 -- A line spacing in motion units, or none for the default.
 abbrev pub sets_spacing : Command → Option (Option ℕ)
-sets_spacing (kind.LineSpacing n) = Some (Some n)
-sets_spacing kind.DefaultSpacing = Some None
+sets_spacing (kind.Set (sets.LineSpacing, p)) = Some (Some (value p))
+sets_spacing (kind.Set (sets.DefaultSpacing, p)) = Some None
 sets_spacing _ = None
 
 abbrev pub sets_bar_height : Command → Option ℕ
-sets_bar_height (kind.BarHeight n) = Some n
+sets_bar_height (kind.Set (sets.BarHeight, p)) = Some (value p)
 sets_bar_height _ = None
 
 abbrev pub sets_module_width : Command → Option ℕ
-sets_module_width (kind.BarWidth n) = Some n
+sets_module_width (kind.Set (sets.BarWidth, p)) = Some (value p)
 sets_module_width _ = None
 
 abbrev pub sets_hri_place : Command → Option HriPosition
-sets_hri_place (kind.HriPlace n) = Some (hri_position_of (choice n))
+sets_hri_place (kind.Set (sets.HriPlace, p)) = Some (hri_position_of (choice (value p)))
 sets_hri_place _ = None
 
 abbrev pub sets_hri_font : Command → Option FontFace
-sets_hri_font (kind.HriFont n) = Some (face_of (choice n))
+sets_hri_font (kind.Set (sets.HriFont, p)) = Some (face_of (choice (value p)))
 sets_hri_font _ = None
 
 abbrev pub sets_qr_model : Command → Option ℕ
@@ -199,8 +201,8 @@ is_empty (x ∷ xs) = false
 
 -- An alignment, and whether lines are upside down, count only at the beginning of a line.
 abbrev pub acts_at_line_start : Command → Bool
-acts_at_line_start (kind.Align n) = true
-acts_at_line_start (kind.UpsideDown n) = true
+acts_at_line_start (kind.Set (sets.Align, p)) = true
+acts_at_line_start (kind.Set (sets.UpsideDown, p)) = true
 acts_at_line_start _ = false
 
 -- The command as a list of one, or nothing if it is one of these with text before it in its line: then it doesn't count.

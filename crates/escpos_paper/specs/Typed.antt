@@ -2,6 +2,7 @@
 use Rattle.std.specs.Prelude.{ℕ, ◌≡◌, List, ◌++◌, map}
 use Rattle.escpos_command.specs.declared.command.Command.{Command}
 use Rattle.escpos_command.specs.declared.command.Command.TheVariants as kind
+use Rattle.escpos_command.specs.declared.setting.SettingKind.TheVariants as sets
 use Rattle.escpos_command.specs.Text.{characters}
 use Rattle.escpos_paper.specs.declared.cell.Cell.{Cell}
 use Rattle.escpos_paper.specs.OverPlaces.{over_places}
@@ -13,7 +14,7 @@ use Rattle.escpos_paper.specs.Printed.{printed}
 -- The commands that do that.
 abbrev pub IsTyping : Command → Type 0
 IsTyping (kind.Char b) = Unit {0}
-IsTyping (kind.Table n) = Unit {0}
+IsTyping (kind.Set (sets.Table, p)) = Unit {0}
 IsTyping _ = ⊥
 
 -- The cells of the characters of commands that come after others, each in the style that the commands before it have set.

@@ -1,10 +1,12 @@
 //! What one command does to the paper, the styles and the line.
 //!
-//! `Paper::carry_out` has an arm for every kind of command, and is the only function of this crate that has. `page` makes
+//! `Paper::carry_out` has an arm for every kind of command, and is the only function of this crate that has; `Paper::set` has one
+//! for every kind of setting. `page` makes
 //! room for the items first, so nothing here can fail.
 
 ghost use Rattle.std.specs.Prelude.{◌≡◌, ◌+◌, ◌≤◌, ℕ, IsTrue, [], ◌∷◌, ◌++◌, length, map, take, if◌then◌else◌, None, true, vec_len, vec_capacity};
 ghost use Rattle.escpos_command.specs.declared.command.Command.TheVariants as kind;
+ghost use Rattle.escpos_command.specs.declared.command.Command.TheVariants.{Set};
 ghost use Rattle.escpos_command.specs.Meanings.{leaves_a_point};
 ghost use Rattle.escpos_command.specs.Settings.{sets_stored};
 ghost use Rattle.escpos_command.specs.Text.{is_some};
@@ -21,7 +23,9 @@ use crate::item::Item;
 use crate::print_buffer::PrintBuffer;
 use crate::qr_store::QrStore;
 use crate::style::{BarStyle, LineStyle, QrStyle, Style};
-use escpos_command::{Command, Cut, LineWidth};
+use escpos_command::{
+    Command, Cut, LineWidth, SettingKind, choice, face_of, has_bit, hri_position_of,
+};
 use std::alloc::Global;
 
 /// The most items that one command prints: a row, a feed and a barcode, a raster, a QR code or a cut.
@@ -130,33 +134,50 @@ impl Paper {
             Command::QrSize(size) => self.qr_style.size = size.byte(),
             Command::QrLevel(level) => self.qr_style.correction = level.correction(),
             Command::Init => self.initialise(),
-            Command::Mode(mode) => self.style = self.style.in_mode(mode),
-            Command::Size(size) => self.style = self.style.in_size(size),
-            Command::Table(table) => self.style.table = table.byte(),
-            Command::Font(font) => self.style.font = font.face(),
-            Command::Emphasis(emphasis) => self.style.bold = emphasis.is_on(),
-            Command::Underline(underline) => self.style.underline = underline.dots(),
-            Command::DoubleStrike(strike) => self.style.strike = strike.is_on(),
-            Command::Reverse(reverse) => self.style.reverse = reverse.is_on(),
-            Command::CharacterSet(set) => self.style.character_set = set.byte(),
-            Command::Align(align) => {
-                self.line_style = self.line_style.aligned(self.line.is_empty(), align);
-            }
-            Command::UpsideDown(upside_down) => {
-                self.line_style = self.line_style.turned(self.line.is_empty(), upside_down);
-            }
-            Command::LineSpacing(spacing) => self.line_style.spacing = Some(spacing.byte()),
-            Command::DefaultSpacing => self.line_style.spacing = None,
-            Command::BarHeight(height) => self.bar_style.height = height.byte(),
-            Command::BarWidth(width) => self.bar_style.module_width = width.byte(),
-            Command::HriPlace(place) => self.bar_style.place = place.position(),
-            Command::HriFont(font) => self.bar_style.hri_font = font.face(),
+            Command::Set(setting) => self.set(setting.kind(), setting.parameter()),
             Command::Return
-            | Command::Smoothing(_)
             | Command::Pulse(_)
             | Command::AutomaticStatus(_)
             | Command::Status(_)
             | Command::Mark(_) => {}
+        }
+    }
+
+    // Sets what a setting of this kind with this parameter sets.
+    fn set(&mut self, kind: SettingKind, parameter: Option<u8>)
+        ensures line_width { self.new.line_width ≡ self.old.line_width }
+        ensures items { self.new.items ≡ self.old.items }
+        ensures style { self.new.style ≡ style_after self.old.style (Set (kind, parameter)) }
+        ensures bar_style { self.new.bar_style ≡ bar_style_after self.old.bar_style (Set (kind, parameter)) }
+        ensures line_style { self.new.line_style ≡ line_style_after (is_empty self.old.line) self.old.line_style (Set (kind, parameter)) }
+        ensures qr_style { self.new.qr_style ≡ self.old.qr_style }
+        ensures store { self.new.store ≡ self.old.store }
+        ensures line { self.new.line ≡ self.old.line }
+    {
+        let value = parameter.unwrap_or(0);
+        match kind {
+            SettingKind::Mode => self.style = self.style.in_mode(value),
+            SettingKind::Size => self.style = self.style.in_size(value),
+            SettingKind::Table => self.style.table = value,
+            SettingKind::Font => self.style.font = face_of(choice(value)),
+            SettingKind::Emphasis => self.style.bold = has_bit(value, 0),
+            SettingKind::Underline => self.style.underline = choice(value),
+            SettingKind::DoubleStrike => self.style.strike = has_bit(value, 0),
+            SettingKind::Reverse => self.style.reverse = has_bit(value, 0),
+            SettingKind::CharacterSet => self.style.character_set = value,
+            SettingKind::Align => {
+                self.line_style = self.line_style.aligned(self.line.is_empty(), value);
+            }
+            SettingKind::UpsideDown => {
+                self.line_style = self.line_style.turned(self.line.is_empty(), value);
+            }
+            SettingKind::LineSpacing => self.line_style.spacing = Some(value),
+            SettingKind::DefaultSpacing => self.line_style.spacing = None,
+            SettingKind::BarHeight => self.bar_style.height = value,
+            SettingKind::BarWidth => self.bar_style.module_width = value,
+            SettingKind::HriPlace => self.bar_style.place = hri_position_of(choice(value)),
+            SettingKind::HriFont => self.bar_style.hri_font = face_of(choice(value)),
+            SettingKind::Smoothing => {}
         }
     }
 

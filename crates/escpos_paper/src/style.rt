@@ -1,14 +1,18 @@
 //! How characters, lines, barcodes and QR codes are printed. What each command does to the styles is left to `paper`, but for the two
 //! commands that set more than one attribute.
 
-ghost use Rattle.std.specs.Prelude.{◌≡◌, ◌↔◌, ◌*◌, IsTrue};
+ghost use Rattle.std.specs.Prelude.{◌≡◌, ◌↔◌, ◌*◌, IsTrue, Some};
 ghost use Rattle.escpos_command.specs.declared.command.Command.TheVariants as kind;
+ghost use Rattle.escpos_command.specs.declared.setting.SettingKind.TheVariants as sets;
 ghost use Rattle.escpos_paper.specs.Styles.{power_on, power_on_bars, power_on_lines, power_on_qr, same_style, style_after};
 ghost use Rattle.escpos_paper.specs.Cells.{cell, face_dots};
 ghost use Rattle.escpos_paper.specs.Steps.{line_style_after};
 
 use crate::cell::{Cell, face_dots};
-use escpos_command::{Align, Alignment, Correction, FontFace, HriPosition, Mode, Size, Switch};
+use escpos_command::{
+    Alignment, Correction, FontFace, HriPosition, alignment_of, choice, face_of_mode, has_bit,
+    magnified, size_height, size_width, underline_of_mode,
+};
 
 /// How a character is printed.
 #[derive(Clone, Copy, Debug, PartialEq, Eq)]
@@ -83,26 +87,26 @@ impl Style {
     }
 
     // The style after ESC !, which sets font, size, emphasis and underline.
-    pub(crate) fn in_mode(self, mode: Mode) -> Self
-        ensures { result ≡ style_after self (kind.Mode mode) }
+    pub(crate) fn in_mode(self, mode: u8) -> Self
+        ensures { result ≡ style_after self (kind.Set (sets.Mode, Some mode)) }
     {
         Style {
-            font: mode.face(),
-            width: mode.width(),
-            height: mode.height(),
-            bold: mode.is_emphasised(),
-            underline: mode.underline(),
+            font: face_of_mode(mode),
+            width: magnified(has_bit(mode, 5)),
+            height: magnified(has_bit(mode, 4)),
+            bold: has_bit(mode, 3),
+            underline: underline_of_mode(mode),
             ..self
         }
     }
 
     // The style after GS !, which sets width and height.
-    pub(crate) fn in_size(self, size: Size) -> Self
-        ensures { result ≡ style_after self (kind.Size size) }
+    pub(crate) fn in_size(self, size: u8) -> Self
+        ensures { result ≡ style_after self (kind.Set (sets.Size, Some size)) }
     {
         Style {
-            width: size.width(),
-            height: size.height(),
+            width: size_width(size),
+            height: size_height(size),
             ..self
         }
     }
@@ -132,12 +136,12 @@ impl LineStyle {
     }
 
     // After ESC a, which is ignored if the line has text.
-    pub(crate) fn aligned(self, is_line_empty: bool, align: Align) -> Self
-        ensures { result ≡ line_style_after is_line_empty self (kind.Align align) }
+    pub(crate) fn aligned(self, is_line_empty: bool, align: u8) -> Self
+        ensures { result ≡ line_style_after is_line_empty self (kind.Set (sets.Align, Some align)) }
     {
         if is_line_empty {
             LineStyle {
-                alignment: align.alignment(),
+                alignment: alignment_of(choice(align)),
                 ..self
             }
         } else {
@@ -146,12 +150,12 @@ impl LineStyle {
     }
 
     // After ESC {, which is ignored if the line has text.
-    pub(crate) fn turned(self, is_line_empty: bool, upside_down: Switch) -> Self
-        ensures { result ≡ line_style_after is_line_empty self (kind.UpsideDown upside_down) }
+    pub(crate) fn turned(self, is_line_empty: bool, upside_down: u8) -> Self
+        ensures { result ≡ line_style_after is_line_empty self (kind.Set (sets.UpsideDown, Some upside_down)) }
     {
         if is_line_empty {
             LineStyle {
-                upside_down: upside_down.is_on(),
+                upside_down: has_bit(upside_down, 0),
                 ..self
             }
         } else {
