@@ -2,11 +2,12 @@
 -- row each in the table of settings.
 --
 -- The bytes are those of the ESC/POS Command Reference, with the parameters as sent in their places.
-use Rattle.std.specs.Prelude.{ℕ, ◌≡◌, ◌+◌, ◌/◌, ◌%◌, Bool, true, List, [], ◌∷◌, ◌++◌, length, IsTrue, option_to_list}
+use Rattle.std.specs.Prelude.{ℕ, ◌≡◌, ◌+◌, ◌/◌, ◌%◌, Bool, true, List, [], ◌∷◌, ◌++◌, length, IsTrue, Some, option_to_list}
 use Rattle.std.specs.List.{flat_map, AllByRecursion}
 use Rattle.escpos_command.specs.declared.bytes.TheConstants.{LF, CR, DLE, ESC, GS, EOT}
 use Rattle.escpos_command.specs.declared.command.Command.{Command}
 use Rattle.escpos_command.specs.declared.command.Command.TheVariants as kind
+use Rattle.escpos_command.specs.declared.setting.SettingKind.{SettingKind}
 use Rattle.escpos_command.specs.declared.bars.Form.{Form}
 use Rattle.escpos_command.specs.declared.bars.Form.TheVariants.{A, B}
 use Rattle.escpos_command.specs.Parameters.{is_byte, is_character, is_status_kind, is_cut, is_pulse, is_qr_model, is_qr_size, is_qr_level, is_mark_id}
@@ -98,6 +99,10 @@ entry_of (kind.Cut cut) = entry (GS ∷ 0x56 ∷ []) (cut.0 ∷ option_to_list c
 entry_of (kind.AutomaticStatus n) = entry (GS ∷ 0x61 ∷ []) (n ∷ []) (is_byte n)  -- GS a
 entry_of (kind.Status n) = entry (DLE ∷ EOT ∷ []) (n ∷ []) (is_status_kind n)  -- DLE EOT
 entry_of (kind.Mark id) = entry (GS ∷ 0x28 ∷ 0x48 ∷ 0x06 ∷ 0x00 ∷ 0x30 ∷ 0x30 ∷ []) id (is_mark_id id)  -- GS ( H, function 48
+
+-- The command that sets this to a parameter.
+abbrev pub set_to : SettingKind → ℕ → Command
+set_to which n = kind.Set (which, Some n)
 
 -- The parameters are in the ranges of the table. "A command" means one of these in what follows.
 abbrev pub IsCommand : Command → Type 0

@@ -5,8 +5,10 @@
 //! (`specs/Tree.antt`) and a case of the proofs over that tree; no proof is about a pair of kinds. docs/ARCHITECTURE.md says how
 //! to find all places.
 
-ghost use Rattle.std.specs.Prelude.{◌≡◌, ◌≤◌, ◌+◌, [], ◌∷◌, length};
-ghost use Rattle.escpos_command.specs.CommandTable.{entry_of, barcode_entry, raster_entry, qr_model_entry, qr_store_entry, IsCommand};
+ghost use Rattle.std.specs.Prelude.{◌≡◌, ◌≤◌, ◌+◌, [], ◌∷◌, length, IsTrue, Some};
+ghost use Rattle.std.specs.Option.{SomeIff};
+ghost use Rattle.escpos_command.specs.CommandTable.{entry_of, barcode_entry, raster_entry, qr_model_entry, qr_store_entry, set_to, IsCommand};
+ghost use Rattle.escpos_command.specs.SettingTable.{table, is_setting};
 ghost use Rattle.escpos_command.specs.declared.command.Command.TheVariants as kind;
 
 use crate::bars::{Bars, Form};
@@ -17,7 +19,7 @@ use crate::parameter::{
 };
 use crate::qr::QrData;
 use crate::raster::Raster;
-use crate::setting::Setting;
+use crate::setting::{Setting, SettingKind};
 use arrayvec::ArrayVec;
 
 /// One command of the profile. Each parameter keeps its byte as sent, so a command has one spelling.
@@ -84,6 +86,16 @@ pub const LONGEST_PREFIX: usize = 11;
 const _: () = prove!(LONGEST_PREFIX == 11);
 
 impl Command {
+    /// The command that sets this to a parameter; `None` where the table of settings doesn't allow it.
+    pub fn set(kind: SettingKind, parameter: u8) -> Option<Self>
+        ensures { SomeIff result (IsTrue (is_setting table (kind, Some parameter))) (set_to kind parameter) }
+    {
+        match Setting::new(kind, Some(parameter)) {
+            Some(setting) => Some(Command::Set(setting)),
+            None => None,
+        }
+    }
+
     /// The four parts of the spelling. Allocates nothing.
     // Without the attribute the compiler no longer inlines this once it has a second caller, and a listing calls it for
     // each character.

@@ -2,7 +2,7 @@
 //! in `render`, where they are read from bytes.
 
 use escpos_command::{
-    Align, Bars, Character, Command, Cut, FeedLines, Form, LineWidth, Raster, Symbology,
+    Bars, Character, Command, Cut, FeedLines, Form, LineWidth, Raster, SettingKind, Symbology,
 };
 use escpos_io::{ByteOut, Device, MemoryOut, Outgoing};
 use escpos_paper::*;
@@ -64,10 +64,10 @@ fn short_writer(rt: HostRuntime) {
 
 #[test]
 fn restart_drops_the_line_and_keeps_the_paper(rt: HostRuntime) {
-    let centre = Align::new(1).expect(&rt, "align");
+    let centre = Command::set(SettingKind::Align, 1).expect(&rt, "align");
     let mut page = Page::new(rt.alloc(), LineWidth::usual());
     apply(&rt, &mut page, Command::LineFeed);
-    apply(&rt, &mut page, Command::Align(centre));
+    apply(&rt, &mut page, centre);
     print(&rt, &mut page, b'B');
     page.restart();
     print(&rt, &mut page, b'C');

@@ -11,7 +11,7 @@ ghost use Rattle.escpos_receipt.specs.Printable.{IsFirstLeftOut, IsPrintable, co
 
 use crate::entry::Entry;
 use escpos_barcode::{qr_modules, runs};
-use escpos_command::{Bars, Command, Correction, LineWidth, QrData};
+use escpos_command::{Bars, Command, Correction, LineWidth, QrData, SettingKind};
 use escpos_paper::added_digit;
 
 // The settings that say how large barcodes and QR codes are, with the data that is stored for QR codes.
@@ -36,12 +36,21 @@ impl<'a> Codes<'a> {
         }
     }
 
+    // After a setting of this kind with this parameter.
+    fn set(&mut self, kind: SettingKind, parameter: Option<u8>)
+        ensures { kept self.new ≡ code_settings_after (kept self.old) (Set (kind, parameter)) }
+    {
+        if let SettingKind::BarWidth = kind {
+            self.module_width = parameter.unwrap_or(0);
+        }
+    }
+
     // After one more command.
     fn follow(&mut self, command: &'a Command)
         ensures { kept self.new ≡ code_settings_after (kept self.old) command.now }
     {
         match command {
-            Command::BarWidth(width) => self.module_width = width.byte(),
+            Command::Set(setting) => self.set(setting.kind(), setting.parameter()),
             Command::QrSize(size) => self.size = size.byte(),
             Command::QrLevel(level) => self.correction = level.correction(),
             Command::QrStore(content) => self.stored = Some(content),

@@ -17,10 +17,7 @@ use crate::layout::layout_in;
 use crate::member::{MEMBERS, Member};
 use crate::qr_code::{QrCode, qr_in};
 use crate::spelled_text::SpelledText;
-use escpos_command::{
-    Align, BarHeight, BarWidth, CharacterSet, Command, Cut, Emphasis, FeedLines, FeedUnits, Font,
-    HriFont, HriPlace, Mode, Size, Table, Underline,
-};
+use escpos_command::{Command, Cut, FeedLines, FeedUnits, SettingKind};
 use escpos_text::{Choice, Encoding, TextFault, first_not_plain, write_text};
 use serde_json::Value;
 use std::alloc::{AllocError, Global};
@@ -178,12 +175,22 @@ fn follow(encoding: &mut Encoding, command: &Command)
     ensures { encoding.new ≡ with_commands encoding.old (command.now ∷ []) }
 {
     match command {
-        Command::Table(table) => encoding.table = table.byte(),
-        Command::CharacterSet(set) => encoding.set = set.byte(),
+        Command::Set(setting) => set(encoding, setting.kind(), setting.parameter()),
         Command::Init => {
             encoding.table = 0;
             encoding.set = 0;
         }
+        _ => {}
+    }
+}
+
+// Sets the encoding as a setting of this kind with this parameter does.
+fn set(encoding: &mut Encoding, kind: SettingKind, parameter: Option<u8>)
+    ensures { encoding.new ≡ with_commands encoding.old (Set (kind, parameter) ∷ []) }
+{
+    match kind {
+        SettingKind::Table => encoding.table = parameter.unwrap_or(0),
+        SettingKind::CharacterSet => encoding.set = parameter.unwrap_or(0),
         _ => {}
     }
 }
@@ -262,21 +269,21 @@ fn short_command_of(member: Member, value: &Value) -> Option<Command>
         Member::Units => Command::FeedUnits(FeedUnits::new(byte_in(value, 0, 255)?)?),
         Member::Spacing => spacing_in(value)?,
         Member::Pulse => Command::Pulse(pulse_in(value)?),
-        Member::Mode => Command::Mode(Mode::new(byte_in(value, 0, 255)?)?),
-        Member::Bold => Command::Emphasis(Emphasis::new(value.as_bool()? as u8)?),
-        Member::Strike => Command::DoubleStrike(switch_in(value)?),
-        Member::Reverse => Command::Reverse(switch_in(value)?),
-        Member::Underline => Command::Underline(Underline::new(byte_in(value, 0, 2)?)?),
-        Member::Font => Command::Font(Font::new(choice_in(value, &FONTS)?)?),
-        Member::Table => Command::Table(Table::new(byte_in(value, 0, 255)?)?),
-        Member::CharacterSet => Command::CharacterSet(CharacterSet::new(byte_in(value, 0, 17)?)?),
-        Member::Align => Command::Align(Align::new(choice_in(value, &ALIGNMENTS)?)?),
-        Member::Upside => Command::UpsideDown(switch_in(value)?),
-        Member::Size => Command::Size(Size::new(size_in(value)?)?),
-        Member::BarHeight => Command::BarHeight(BarHeight::new(byte_in(value, 1, 255)?)?),
-        Member::BarWidth => Command::BarWidth(BarWidth::new(byte_in(value, 2, 6)?)?),
-        Member::Hri => Command::HriPlace(HriPlace::new(choice_in(value, &HRI_POSITIONS)?)?),
-        Member::HriFont => Command::HriFont(HriFont::new(choice_in(value, &FONTS)?)?),
+        Member::Mode => Command::set(SettingKind::Mode, byte_in(value, 0, 255)?)?,
+        Member::Bold => Command::set(SettingKind::Emphasis, value.as_bool()? as u8)?,
+        Member::Strike => Command::set(SettingKind::DoubleStrike, switch_in(value)?)?,
+        Member::Reverse => Command::set(SettingKind::Reverse, switch_in(value)?)?,
+        Member::Underline => Command::set(SettingKind::Underline, byte_in(value, 0, 2)?)?,
+        Member::Font => Command::set(SettingKind::Font, choice_in(value, &FONTS)?)?,
+        Member::Table => Command::set(SettingKind::Table, byte_in(value, 0, 255)?)?,
+        Member::CharacterSet => Command::set(SettingKind::CharacterSet, byte_in(value, 0, 17)?)?,
+        Member::Align => Command::set(SettingKind::Align, choice_in(value, &ALIGNMENTS)?)?,
+        Member::Upside => Command::set(SettingKind::UpsideDown, switch_in(value)?)?,
+        Member::Size => Command::set(SettingKind::Size, size_in(value)?)?,
+        Member::BarHeight => Command::set(SettingKind::BarHeight, byte_in(value, 1, 255)?)?,
+        Member::BarWidth => Command::set(SettingKind::BarWidth, byte_in(value, 2, 6)?)?,
+        Member::Hri => Command::set(SettingKind::HriPlace, choice_in(value, &HRI_POSITIONS)?)?,
+        Member::HriFont => Command::set(SettingKind::HriFont, choice_in(value, &FONTS)?)?,
         Member::Cut => Command::Cut(Cut::new(choice_in(value, &CUTS)?)?),
         Member::FeedCut => Command::Cut(feed_cut_in(value)?),
         Member::Text

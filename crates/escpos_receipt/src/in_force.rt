@@ -1,12 +1,15 @@
 //! What is in force where an entry of a receipt's text stands: how texts are written, and what a line is like.
 
 ghost use Rattle.std.specs.Prelude.{◌≡◌, ◌∷◌, ◌++◌, [], ℕ, List};
-ghost use Rattle.escpos_command.specs.declared.command.Command.TheVariants.{LineFeed};
+ghost use Rattle.escpos_command.specs.declared.command.Command.TheVariants.{LineFeed, Set};
 ghost use Rattle.escpos_receipt.specs.Entries.{columns_in, qr_commands};
 ghost use Rattle.escpos_receipt.specs.EntryCommands.{line_after, line_step, start_of};
 
 use crate::spelled_text::SpelledText;
-use escpos_command::{Command, FontFace, LineWidth};
+use escpos_command::{
+    Command, FontFace, LineWidth, SettingKind, choice, face_of, face_of_mode, has_bit, magnified,
+    size_width,
+};
 use escpos_layout::Columns;
 use escpos_text::{Encoding, Replacement};
 
@@ -68,12 +71,7 @@ impl LineState {
     {
         let in_line = self.leaves_text(command);
         match command {
-            Command::Font(font) => self.font = font.face(),
-            Command::Mode(mode) => {
-                self.font = mode.face();
-                self.times = mode.width();
-            }
-            Command::Size(size) => self.times = size.width(),
+            Command::Set(setting) => self.set(setting.kind(), setting.parameter()),
             Command::QrStore(_) => self.stored = true,
             Command::Init => {
                 self.font = FontFace::A;
@@ -83,6 +81,22 @@ impl LineState {
             _ => {}
         }
         self.in_line = in_line;
+    }
+
+    // After a setting of this kind with this parameter.
+    fn set(&mut self, kind: SettingKind, parameter: Option<u8>)
+        ensures { self.new ≡ line_step self.old (Set (kind, parameter)) }
+    {
+        let value = parameter.unwrap_or(0);
+        match kind {
+            SettingKind::Font => self.font = face_of(choice(value)),
+            SettingKind::Mode => {
+                self.font = face_of_mode(value);
+                self.times = magnified(has_bit(value, 5));
+            }
+            SettingKind::Size => self.times = size_width(value),
+            _ => {}
+        }
     }
 
     // Whether there is text in the line after a command.

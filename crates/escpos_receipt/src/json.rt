@@ -25,7 +25,7 @@ use crate::in_force::InForce;
 use crate::laws;
 use crate::options::ReceiptOptions;
 use crate::receipt::{Receipt, ReceiptFault};
-use escpos_command::{Character, Command, ESC, LF, Table};
+use escpos_command::{Character, Command, ESC, LF, SettingKind};
 use serde_json::{Category, Value};
 use std::alloc::{AllocError, Global};
 use std::marker::Model;
@@ -461,7 +461,7 @@ fn first_of_text(text: &[u8]) -> Option<(Command, &[u8])>
     if byte == ESC {
         let (_, rest) = first_byte(rest)?;
         let (number, rest) = first_byte(rest)?;
-        return Some((Command::Table(Table::new(number)?), rest));
+        return Some((Command::set(SettingKind::Table, number)?, rest));
     }
     if byte == LF {
         return Some((Command::LineFeed, rest));

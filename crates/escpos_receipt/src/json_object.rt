@@ -10,7 +10,7 @@ use crate::entry::EntryFault;
 use crate::json_names::{CUTS, SCALES, SYMBOLOGIES};
 use crate::json_value::{byte_in, choice_in, field, number_in};
 use escpos_command::{
-    Bars, Command, Cut, Form, HIGHEST, LineSpacing, Pulse, Raster, Symbology, WIDEST,
+    Bars, Command, Cut, Form, HIGHEST, Pulse, Raster, Setting, SettingKind, Symbology, WIDEST,
 };
 use hex::FromHexError;
 use serde_json::Value;
@@ -33,9 +33,15 @@ pub fn spacing_in(value: &Value) -> Option<Command>
     ensures { result ≡ spacing_in (view value.now) }
 {
     if let Some(name) = value.as_str() {
-        return (name == "default").then_some(Command::DefaultSpacing);
+        if name != "default" {
+            return None;
+        }
+        return Some(Command::Set(Setting::new(
+            SettingKind::DefaultSpacing,
+            None,
+        )?));
     }
-    Some(Command::LineSpacing(LineSpacing::new(byte_in(value, 0, 255)?)?))
+    Command::set(SettingKind::LineSpacing, byte_in(value, 0, 255)?)
 }
 
 /// A pulse: its pin, and how long it is on and off.

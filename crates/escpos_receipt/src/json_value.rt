@@ -7,7 +7,6 @@ ghost use Rattle.serde_json.specs.View.{view};
 ghost use Rattle.escpos_receipt.specs.Entries.{choice_in, field, named, number_in, switch_in, tables_in};
 
 use arrayvec::ArrayVec;
-use escpos_command::Switch;
 use escpos_text::{Choice, MOST_TABLES};
 use serde_json::Value;
 
@@ -33,10 +32,10 @@ pub fn byte_in(value: &Value, least: u8, most: u8) -> Option<u8>
 }
 
 /// On for true and off for false; `None` for any other value.
-pub fn switch_in(value: &Value) -> Option<Switch>
+pub fn switch_in(value: &Value) -> Option<u8>
     ensures { result ≡ switch_in (view value.now) }
 {
-    Switch::new(value.as_bool()? as u8)
+    Some(value.as_bool()? as u8)
 }
 
 /// What the table has for the name that the value is; `None` unless it is a name of the table.

@@ -7,7 +7,7 @@ ghost use Rattle.std.specs.Option.{SomeIff};
 ghost use Rattle.escpos_till.specs.Copy.{IsCopyText, copy_line, is_copy_character};
 
 use arrayvec::ArrayVec;
-use escpos_command::{Align, Character, Command, Emphasis, laws};
+use escpos_command::{Character, Command, SettingKind, laws};
 use escpos_receipt::Receipt;
 use std::alloc::{AllocError, Global};
 use std::marker::Model;
@@ -131,12 +131,12 @@ pub(crate) fn with_copy(
 fn push_copy_line(commands: &mut Vec<Command>, text: &CopyText<'_>) -> Result<(), AllocError>
     ensures { OnOk result (commands.new.items ≡ commands.old.items ++ copy_line text.now) }
 {
-    commands.push(Command::Align(Align::new(1).unwrap()))?;
-    commands.push(Command::Emphasis(Emphasis::new(1).unwrap()))?;
+    commands.push(Command::set(SettingKind::Align, 1).unwrap())?;
+    commands.push(Command::set(SettingKind::Emphasis, 1).unwrap())?;
     push_characters(commands, text.text())?;
     commands.push(Command::LineFeed)?;
-    commands.push(Command::Emphasis(Emphasis::new(0).unwrap()))?;
-    commands.push(Command::Align(Align::new(0).unwrap()))?;
+    commands.push(Command::set(SettingKind::Emphasis, 0).unwrap())?;
+    commands.push(Command::set(SettingKind::Align, 0).unwrap())?;
     Ok(())
 }
 

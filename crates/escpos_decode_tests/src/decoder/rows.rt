@@ -6,8 +6,7 @@
 use crate::support::comparison::agrees;
 use crate::support::decoders::{BAD, decodes, holds, push_half, reads, refuses_last, steps_to};
 use escpos_command::{
-    Align, Character, CharacterSet, Command, Cut, FaultReason, FeedUnits, LineSpacing, MarkId,
-    Pulse, Reporting, Size, Switch,
+    Character, Command, Cut, FaultReason, FeedUnits, MarkId, Pulse, Reporting, Setting, SettingKind,
 };
 use escpos_decode::{DecodeFault, Decoder, End, Step};
 use escpos_test_values::{FIVE, MARK_35, five_commands_of};
@@ -64,8 +63,8 @@ fn bytes_of_a_mark(rt: HostRuntime) {
 #[test]
 fn align_range(rt: HostRuntime) {
     refuses_last(&rt, rt.alloc(), &[0x1B, 0x61, 0x03], BAD);
-    let align = Align::new(0x32).expect(&rt, "align");
-    reads(&rt, rt.alloc(), &[0x1B, 0x61, 0x32], &Command::Align(align));
+    let align = Command::set(SettingKind::Align, 0x32).expect(&rt, "align");
+    reads(&rt, rt.alloc(), &[0x1B, 0x61, 0x32], &align);
 }
 
 // The place of a fault counts from the byte after the last command.
@@ -112,17 +111,17 @@ fn character_set_range(rt: HostRuntime) {
     refuses_last(&rt, rt.alloc(), &[0x1B, 0x52, 0x12], why);
     let end = End::Fault { at: 2, why };
     decodes(&rt, rt.alloc(), &[&[0x1B, 0x52, 0x12]], &[], end);
-    let set = CharacterSet::new(0x11).expect(&rt, "set");
+    let set = Command::set(SettingKind::CharacterSet, 0x11).expect(&rt, "set");
     let bytes = [0x1B, 0x52, 0x11];
-    reads(&rt, rt.alloc(), &bytes, &Command::CharacterSet(set));
+    reads(&rt, rt.alloc(), &bytes, &set);
 }
 
 #[test]
 fn size_bits(rt: HostRuntime) {
     refuses_last(&rt, rt.alloc(), &[0x1D, 0x21, 0x08], BAD);
     refuses_last(&rt, rt.alloc(), &[0x1D, 0x21, 0x80], BAD);
-    let size = Size::new(0x77).expect(&rt, "size");
-    reads(&rt, rt.alloc(), &[0x1D, 0x21, 0x77], &Command::Size(size));
+    let size = Command::set(SettingKind::Size, 0x77).expect(&rt, "size");
+    reads(&rt, rt.alloc(), &[0x1D, 0x21, 0x77], &size);
 }
 
 #[test]
@@ -176,16 +175,11 @@ fn switches(rt: HostRuntime) {
     let bytes = [
         0x1B, 0x47, 0x03, 0x1D, 0x42, 0x01, 0x1B, 0x7B, 0x30, 0x1D, 0x62, 0xFF,
     ];
-    let strike = Switch::new(0x03).expect(&rt, "switch");
-    let reverse = Switch::new(0x01).expect(&rt, "switch");
-    let upside_down = Switch::new(0x30).expect(&rt, "switch");
-    let smoothing = Switch::new(0xFF).expect(&rt, "switch");
-    let commands = [
-        Command::DoubleStrike(strike),
-        Command::Reverse(reverse),
-        Command::UpsideDown(upside_down),
-        Command::Smoothing(smoothing),
-    ];
+    let strike = Command::set(SettingKind::DoubleStrike, 0x03).expect(&rt, "switch");
+    let reverse = Command::set(SettingKind::Reverse, 0x01).expect(&rt, "switch");
+    let upside_down = Command::set(SettingKind::UpsideDown, 0x30).expect(&rt, "switch");
+    let smoothing = Command::set(SettingKind::Smoothing, 0xFF).expect(&rt, "switch");
+    let commands = [strike, reverse, upside_down, smoothing];
     let end = End::Read { half: 0 };
     decodes(&rt, rt.alloc(), &[&bytes], &commands, end);
     agrees(&rt, rt.alloc(), &bytes);
@@ -207,13 +201,10 @@ fn automatic_status(rt: HostRuntime) {
 #[test]
 fn line_spacing(rt: HostRuntime) {
     let bytes = [0x1B, 0x33, 0x18, 0x1B, 0x32, 0x41];
-    let spacing = LineSpacing::new(0x18).expect(&rt, "spacing");
+    let default = Setting::new(SettingKind::DefaultSpacing, None).expect(&rt, "a setting");
+    let spacing = Command::set(SettingKind::LineSpacing, 0x18).expect(&rt, "spacing");
     let a = Character::new(0x41).expect(&rt, "A");
-    let commands = [
-        Command::LineSpacing(spacing),
-        Command::DefaultSpacing,
-        Command::Char(a),
-    ];
+    let commands = [spacing, Command::Set(default), Command::Char(a)];
     let end = End::Read { half: 0 };
     decodes(&rt, rt.alloc(), &[&bytes], &commands, end);
     agrees(&rt, rt.alloc(), &bytes);

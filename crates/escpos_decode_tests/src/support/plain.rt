@@ -4,10 +4,9 @@
 //! decoder. The tests compare the two.
 
 use escpos_command::{
-    Align, BarHeight, BarWidth, Bars, CR, Character, CharacterSet, Command, Cut, DLE, EOT, ESC,
-    Emphasis, FaultReason, FeedLines, FeedUnits, Font, Form, GS, HriFont, HriPlace, LF,
-    LineSpacing, MarkId, Mode, Pulse, QrData, QrLevel, QrModel, QrSize, Raster, Reporting, Size,
-    StatusKind, Switch, Symbology, Table, Underline,
+    Bars, CR, Character, Command, Cut, DLE, EOT, ESC, FaultReason, FeedLines, FeedUnits, Form, GS,
+    LF, MarkId, Pulse, QrData, QrLevel, QrModel, QrSize, Raster, Reporting, Setting, SettingKind,
+    StatusKind, Symbology,
 };
 use std::alloc::Global;
 use std::process::Abort;
@@ -52,33 +51,35 @@ fn command_spelled(rt: &impl Abort, alloc: Global, bytes: &[u8]) -> Option<Comma
     })
 }
 
+// The command that sets this.
+fn set(rt: &impl Abort, kind: SettingKind, parameter: u8) -> Command {
+    Command::set(kind, parameter).expect(rt, "a parameter")
+}
+
 // The command that these bytes spell after ESC.
 fn spelled_by_escape(rt: &impl Abort, rest: &[u8]) -> Option<Command> {
     Some(match rest {
         b"@" => Command::Init,
-        [b'!', n] => Command::Mode(Mode::new(*n).expect(rt, "a parameter")),
-        [b'-', n @ (0..=2 | 48..=50)] => Command::Underline(Underline::new(*n).expect(
+        [b'!', n] => set(rt, SettingKind::Mode, *n),
+        [b'-', n @ (0..=2 | 48..=50)] => set(rt, SettingKind::Underline, *n),
+        b"2" => Command::Set(Setting::new(SettingKind::DefaultSpacing, None).expect(
             rt,
-            "a parameter",
+            "a setting",
         )),
-        b"2" => Command::DefaultSpacing,
-        [b'3', n] => Command::LineSpacing(LineSpacing::new(*n).expect(rt, "a parameter")),
-        [b'E', n] => Command::Emphasis(Emphasis::new(*n).expect(rt, "a parameter")),
-        [b'G', n] => Command::DoubleStrike(Switch::new(*n).expect(rt, "a parameter")),
-        [b'M', n @ (0 | 1 | 48 | 49)] => Command::Font(Font::new(*n).expect(rt, "a parameter")),
-        [b'R', n @ 0..=17] => Command::CharacterSet(CharacterSet::new(*n).expect(
-            rt,
-            "a parameter",
-        )),
-        [b'a', n @ (0..=2 | 48..=50)] => Command::Align(Align::new(*n).expect(rt, "a parameter")),
+        [b'3', n] => set(rt, SettingKind::LineSpacing, *n),
+        [b'E', n] => set(rt, SettingKind::Emphasis, *n),
+        [b'G', n] => set(rt, SettingKind::DoubleStrike, *n),
+        [b'M', n @ (0 | 1 | 48 | 49)] => set(rt, SettingKind::Font, *n),
+        [b'R', n @ 0..=17] => set(rt, SettingKind::CharacterSet, *n),
+        [b'a', n @ (0..=2 | 48..=50)] => set(rt, SettingKind::Align, *n),
         [b'J', n] => Command::FeedUnits(FeedUnits::new(*n).expect(rt, "a parameter")),
         [b'd', n] => Command::FeedLines(FeedLines::new(*n).expect(rt, "a parameter")),
         [b'p', m @ (0 | 1 | 48 | 49), on, off] => Command::Pulse(Pulse::new(*m, *on, *off).expect(
             rt,
             "a parameter",
         )),
-        [b't', n] => Command::Table(Table::new(*n).expect(rt, "a parameter")),
-        [b'{', n] => Command::UpsideDown(Switch::new(*n).expect(rt, "a parameter")),
+        [b't', n] => set(rt, SettingKind::Table, *n),
+        [b'{', n] => set(rt, SettingKind::UpsideDown, *n),
         _ => return None,
     })
 }
@@ -86,25 +87,16 @@ fn spelled_by_escape(rt: &impl Abort, rest: &[u8]) -> Option<Command> {
 // The command without content that these bytes spell after GS.
 fn spelled_by_group(rt: &impl Abort, rest: &[u8]) -> Option<Command> {
     Some(match rest {
-        [b'!', n] if *n & 0b1000_1000 == 0 => Command::Size(Size::new(*n).expect(
-            rt,
-            "a parameter",
-        )),
-        [b'B', n] => Command::Reverse(Switch::new(*n).expect(rt, "a parameter")),
-        [b'H', n @ (0..=3 | 48..=51)] => Command::HriPlace(HriPlace::new(*n).expect(
-            rt,
-            "a parameter",
-        )),
+        [b'!', n] if *n & 0b1000_1000 == 0 => set(rt, SettingKind::Size, *n),
+        [b'B', n] => set(rt, SettingKind::Reverse, *n),
+        [b'H', n @ (0..=3 | 48..=51)] => set(rt, SettingKind::HriPlace, *n),
         [b'V', m @ (0 | 1 | 48 | 49)] => Command::Cut(Cut::new(*m).expect(rt, "a parameter")),
         [b'V', m @ (65 | 66), n] => Command::Cut(Cut::with_feed(*m, *n).expect(rt, "a parameter")),
         [b'a', n] => Command::AutomaticStatus(Reporting::new(*n).expect(rt, "a parameter")),
-        [b'b', n] => Command::Smoothing(Switch::new(*n).expect(rt, "a parameter")),
-        [b'f', n @ (0 | 1 | 48 | 49)] => Command::HriFont(HriFont::new(*n).expect(
-            rt,
-            "a parameter",
-        )),
-        [b'h', n @ 1..=255] => Command::BarHeight(BarHeight::new(*n).expect(rt, "a parameter")),
-        [b'w', n @ 2..=6] => Command::BarWidth(BarWidth::new(*n).expect(rt, "a parameter")),
+        [b'b', n] => set(rt, SettingKind::Smoothing, *n),
+        [b'f', n @ (0 | 1 | 48 | 49)] => set(rt, SettingKind::HriFont, *n),
+        [b'h', n @ 1..=255] => set(rt, SettingKind::BarHeight, *n),
+        [b'w', n @ 2..=6] => set(rt, SettingKind::BarWidth, *n),
         _ => return None,
     })
 }

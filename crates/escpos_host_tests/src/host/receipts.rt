@@ -1,7 +1,7 @@
 //! Receipts as values: what is handed back, and the reasons for which there is none, compared, copied and printed.
 
 use crate::support::texts::is_shown_as;
-use escpos_command::{Character, Command, LineWidth, Switch};
+use escpos_command::{Character, Command, LineWidth, SettingKind};
 use escpos_host::{JsonError, JsonFault, Receipt, ReceiptFault};
 use escpos_receipt::{ReceiptOptions, ReceiptText};
 use escpos_test_receipts::faults;
@@ -28,10 +28,10 @@ fn commands_are_handed_back(rt: HostRuntime) {
 #[test]
 fn smoothing_in_a_receipt(rt: HostRuntime) {
     let letter = Character::new(b'A').expect(&rt, "a character");
-    let smooth = Switch::new(0xFF).expect(&rt, "a switch");
+    let smooth = Command::set(SettingKind::Smoothing, 0xFF).expect(&rt, "a setting");
     let commands = vec![in rt.alloc();
         Command::Char(letter),
-        Command::Smoothing(smooth),
+        smooth,
         Command::Return,
         Command::LineFeed,
     ];
