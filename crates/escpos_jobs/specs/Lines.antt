@@ -9,6 +9,7 @@ use Rattle.hex.specs.Hex.{encode_lower}
 use Rattle.escpos_command.specs.declared.bytes.TheConstants.{LF}
 use Rattle.escpos_command.specs.declared.command.Command.{Command}
 use Rattle.escpos_command.specs.declared.command.Command.TheVariants as kind
+use Rattle.escpos_command.specs.Reference.{name_of}
 use Rattle.escpos_command.specs.declared.fault.FaultReason.{FaultReason}
 use Rattle.escpos_command.specs.Places.{reason_number, reason_name}
 use Rattle.escpos_command.specs.CommandTable.{row, entry_of}
@@ -20,28 +21,11 @@ word_of (kind.Char b) = codes "char"
 word_of kind.LineFeed = codes "lf"
 word_of kind.Return = codes "cr"
 word_of kind.Init = codes "init"
-word_of (kind.Mode n) = codes "mode"
-word_of (kind.Emphasis n) = codes "emphasis"
-word_of (kind.DoubleStrike n) = codes "strike"
-word_of (kind.Underline n) = codes "underline"
-word_of (kind.Font n) = codes "font"
-word_of (kind.Table n) = codes "table"
-word_of (kind.CharacterSet n) = codes "charset"
-word_of (kind.Reverse n) = codes "reverse"
-word_of (kind.Smoothing n) = codes "smooth"
+word_of (kind.Set s) = name_of s.0
 word_of (kind.AutomaticStatus n) = codes "autostatus"
-word_of (kind.UpsideDown n) = codes "upside"
-word_of (kind.Align n) = codes "align"
-word_of (kind.LineSpacing n) = codes "spacing"
-word_of kind.DefaultSpacing = codes "spacing default"
 word_of (kind.FeedLines n) = codes "feed"
 word_of (kind.FeedUnits n) = codes "units"
 word_of (kind.Pulse pulse) = codes "pulse"
-word_of (kind.Size n) = codes "size"
-word_of (kind.BarHeight n) = codes "barheight"
-word_of (kind.BarWidth n) = codes "barwidth"
-word_of (kind.HriPlace n) = codes "hriplace"
-word_of (kind.HriFont n) = codes "hrifont"
 word_of (kind.Bars bars) = codes "bars"
 word_of (kind.Raster raster) = codes "raster"
 word_of (kind.QrModel n) = codes "qrmodel"

@@ -1,5 +1,5 @@
 -- The cells of a line's text.
-use Rattle.std.proofs.Common.{◌≡◌, ℕ, ◌+◌, ◌*◌, ◌/◌, ◌≤◌, ◌<◌, ◌⊎◌, inl, inr, zero, suc, List, [], ◌∷◌, ◌++◌, length, map, refl, sym, ap, ◌∙◌, arith, append-nil, Bool, true, false}
+use Rattle.std.proofs.Common.{◌≡◌, ℕ, ◌+◌, ◌*◌, ◌/◌, ◌≤◌, ◌<◌, ◌⊎◌, inl, inr, zero, suc, List, [], ◌∷◌, ◌++◌, length, map, refl, sym, ap, ◌∙◌, arith, append-nil, Bool, true, false, Some}
 use Rattle.std.specs.Prelude.{◌||◌, nat_le}
 use Rattle.std.specs.List.{AllByRecursion}
 use Rattle.std.proofs.Math.Nat.{le-div_iff_mul-le, lt-div-mul-add, mul-le-mul}
@@ -7,7 +7,9 @@ use Rattle.std.proofs.Math.Seq.{append_snoc}
 use Rattle.std.proofs.lemmas.Bool.{le-leb}
 use Rattle.std.proofs.lemmas.List.Sums.{sum_by-cons}
 use Rattle.escpos_command.specs.declared.command.Command.{Command}
-use Rattle.escpos_command.specs.declared.command.Command.TheVariants.{Char, Table}
+use Rattle.escpos_command.specs.declared.command.Command.TheVariants.{Char, Set}
+use Rattle.escpos_command.specs.SettingTable.{value}
+use Rattle.escpos_command.specs.declared.setting.SettingKind.TheVariants as sets
 use Rattle.escpos_command.specs.declared.parameter.choices.FontFace.{FontFace}
 use Rattle.escpos_command.specs.declared.parameter.choices.FontFace.TheVariants.{A, B}
 use Rattle.escpos_paper.specs.declared.cell.Cell.{Cell}
@@ -33,7 +35,7 @@ StylesGrow = (cs : List Command) (c : Command) → style (cs ++ c ∷ []) ≡ st
 pub are_typing : (cs : List Command) → AreOfText cs → AllByRecursion IsTyping cs
 are_typing [] h = tt
 are_typing (Char b ∷ cs) h = (tt, are_typing cs h.2)
-are_typing (Table n ∷ cs) h = (tt, are_typing cs h.1)
+are_typing (Set (sets.Table, Some n) ∷ cs) h = (tt, are_typing cs h.1)
 are_typing (c ∷ cs) h = absurd h
 
 -- The style after a text is the one before it, but for the code table.
@@ -42,9 +44,9 @@ style_then grow before [] h = ap style (append-nil before)
 style_then grow before (Char b ∷ cs) h =
     ap style (sym (append_snoc before (Char b) cs)) ∙ style_then grow (before ++ Char b ∷ []) cs h.2
     ∙ ap (λ (s : Style). record s { table = table_after s.table cs }) (grow before (Char b))
-style_then grow before (Table n ∷ cs) h =
-    ap style (sym (append_snoc before (Table n) cs)) ∙ style_then grow (before ++ Table n ∷ []) cs h.1
-    ∙ ap (λ (s : Style). record s { table = table_after s.table cs }) (grow before (Table n))
+style_then grow before (Set (sets.Table, Some n) ∷ cs) h =
+    ap style (sym (append_snoc before (Set (sets.Table, Some n)) cs)) ∙ style_then grow (before ++ Set (sets.Table, Some n) ∷ []) cs h.1
+    ∙ ap (λ (s : Style). record s { table = table_after s.table cs }) (grow before (Set (sets.Table, Some n)))
 style_then grow before (c ∷ cs) h = absurd h
 
 -- Its cells read as its commands do.
@@ -53,8 +55,8 @@ text_read grow before [] h = refl
 text_read grow before (Char b ∷ cs) h =
     ap (λ l. reads (style before).character_set (style before).table b ∷ l) (text_read grow (before ++ Char b ∷ []) cs h.2)
     ∙ ap (λ (s : Style). reads (style before).character_set (style before).table b ∷ read_back s.character_set s.table cs) (grow before (Char b))
-text_read grow before (Table n ∷ cs) h =
-    text_read grow (before ++ Table n ∷ []) cs h.1 ∙ ap (λ (s : Style). read_back s.character_set s.table cs) (grow before (Table n))
+text_read grow before (Set (sets.Table, Some n) ∷ cs) h =
+    text_read grow (before ++ Set (sets.Table, Some n) ∷ []) cs h.1 ∙ ap (λ (s : Style). read_back s.character_set s.table cs) (grow before (Set (sets.Table, Some n)))
 text_read grow before (c ∷ cs) h = absurd h
 
 -- The commands have set this style, but for the code table.
@@ -63,14 +65,14 @@ IsSet s before = style before ≡ record s { table = (style before).table }
 
 is_set_after : StylesGrow → (s : Style) (before : List Command) (c : Command) → IsTyping c → IsSet s before → IsSet s (before ++ c ∷ [])
 is_set_after grow s before (Char b) h is = grow before (Char b) ∙ is ∙ ap (λ (t : Style). record s { table = t.table }) (sym (grow before (Char b)))
-is_set_after grow s before (Table n) h is =
-    grow before (Table n) ∙ ap (λ (t : Style). record t { table = n }) is ∙ ap (λ (t : Style). record s { table = t.table }) (sym (grow before (Table n)))
+is_set_after grow s before (Set (sets.Table, p)) h is =
+    grow before (Set (sets.Table, p)) ∙ ap (λ (t : Style). record t { table = value p }) is ∙ ap (λ (t : Style). record s { table = t.table }) (sym (grow before (Set (sets.Table, p))))
 is_set_after grow s before c h is = absurd h
 
 pub cells_in_style : StylesGrow → (s : Style) (before cs : List Command) → AreOfText cs → IsSet s before → AllByRecursion (HasStyle s) (typed before cs)
 cells_in_style grow s before [] h is = tt
 cells_in_style grow s before (Char b ∷ cs) h is = (is, cells_in_style grow s (before ++ Char b ∷ []) cs h.2 (is_set_after grow s before (Char b) tt is))
-cells_in_style grow s before (Table n ∷ cs) h is = cells_in_style grow s (before ++ Table n ∷ []) cs h.1 (is_set_after grow s before (Table n) tt is)
+cells_in_style grow s before (Set (sets.Table, Some n) ∷ cs) h is = cells_in_style grow s (before ++ Set (sets.Table, Some n) ∷ []) cs h.1 (is_set_after grow s before (Set (sets.Table, Some n)) tt is)
 cells_in_style grow s before (c ∷ cs) h is = absurd h
 
 -- ## Widths

@@ -1,7 +1,9 @@
 -- Worked rows, computed from the definitions alone.
 use Rattle.std.proofs.Common.{◌≡◌, [], ◌∷◌, refl, None, Ok, Err}
 use Rattle.std.specs.Prelude.{codes}
-use Rattle.escpos_command.specs.declared.command.Command.TheVariants.{Char, Table, LineFeed}
+use Rattle.escpos_command.specs.declared.command.Command.TheVariants.{Char, LineFeed}
+use Rattle.escpos_command.specs.CommandTable.{set_to}
+use Rattle.escpos_command.specs.declared.setting.SettingKind.TheVariants as sets
 use Rattle.escpos_command.specs.declared.parameter.choices.FontFace.TheVariants.{A, B}
 use Rattle.escpos_text.specs.declared.encoding.Encoding.{Encoding}
 use Rattle.escpos_text.specs.declared.encoding.TextFault.TheVariants.{NoCharacter}
@@ -137,7 +139,7 @@ fresh : Encoding
 fresh = record { set = 0; table = 0; choice = usual_tables; replacement = None }
 
 -- The table that a line selects is in force in the next.
-two_lines : lines_written fresh (codes "5€" ∷ codes "€" ∷ []) ≡ Ok (Char 0x35 ∷ Table 19 ∷ Char 0xD5 ∷ LineFeed ∷ Char 0xD5 ∷ LineFeed ∷ [])
+two_lines : lines_written fresh (codes "5€" ∷ codes "€" ∷ []) ≡ Ok (Char 0x35 ∷ set_to sets.Table 19 ∷ Char 0xD5 ∷ LineFeed ∷ Char 0xD5 ∷ LineFeed ∷ [])
 unfolding fresh byte_for reads reads_low reads_high exchanged_bytes characters_in character_sets characters_of code_tables place_among place_for placed written lines_written
 two_lines = refl
 

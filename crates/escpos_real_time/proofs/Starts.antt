@@ -1,11 +1,17 @@
 -- The byte that a command begins with.
-use Rattle.std.proofs.Common.{◌≡◌, ◌≢◌, ◌≤◌, ◌⊎◌, ℕ, IsTrue, List, [], ◌∷◌, ◌++◌, refl, sym, ◌∙◌, ap, subst, append-nil, arith}
+use Rattle.std.specs.Prelude.{◌==◌, ◌||◌}
+use Rattle.std.proofs.Common.{◌≡◌, ◌≢◌, ◌≤◌, ◌⊎◌, inl, inr, Bool, true, false, ℕ, IsTrue, List, [], ◌∷◌, ◌++◌, refl, sym, ◌∙◌, ap, subst, append-nil, arith}
 use Rattle.std.proofs.lemmas.Bool.Decides.{nat_tests}
 use Rattle.std.proofs.lemmas.Grind.{flat_map-append}
 use Rattle.escpos_command.specs.declared.bytes.TheConstants.{LF, CR, DLE, ESC, GS}
 use Rattle.escpos_command.specs.declared.command.Command.{Command}
 use Rattle.escpos_command.specs.declared.command.Command.TheVariants as kind
+use Rattle.escpos_command.specs.declared.setting.SettingKind.{SettingKind}
 use Rattle.escpos_command.specs.CommandTable.{IsCommand, row, spell}
+use Rattle.escpos_command.specs.SettingTable.{table, number, blank, row_for}
+use Rattle.escpos_command.proofs.Combinators.{same_number}
+use Rattle.escpos_command.proofs.SettingFacts.{is_table, two_first}
+use Rattle.escpos_command.proofs.SettingRows.{all_at, covered}
 use Rattle.escpos_command.specs.Parameters.{is_character}
 use Rattle.escpos_real_time.specs.RealTime.{HoldsRealTime}
 use Rattle.escpos_real_time.proofs.Holding.{IsStart, held_by_part}
@@ -43,32 +49,28 @@ line_feed_starts = starts LF [] (omega arith, λ e. omega (arith, e))
 pub escape_starts : (bytes : List ℕ) → Starts (ESC ∷ bytes)
 escape_starts bytes = starts ESC bytes esc
 
+either : (a b : Bool) → (a || b) ≡ true → (a ≡ true) ⊎ (b ≡ true)
+either true b h = inl refl
+either false b h = inr h
+
+-- Each setting begins with ESC or GS.
+first_is_start : (which : SettingKind) → IsStart (row_for table which).first
+first_is_start which =
+    let r = row_for table which in
+    elim (either (r.first == ESC) (r.first == GS) (all_at (λ s. s.first == ESC || s.first == GS) table (number which) blank two_first (covered table is_table which))) [
+      | inl e ↦ subst IsStart (sym (same_number r.first ESC e)) esc
+      | inr e ↦ subst IsStart (sym (same_number r.first GS e)) gs
+    ]
+
 pub command_starts : (c : Command) → IsCommand c → Starts (row c)
 command_starts (kind.Char b) h = starts b _ (character_start b h)
 command_starts kind.LineFeed h = starts LF _ (omega arith, λ e. omega (arith, e))
 command_starts kind.Return h = starts CR _ (omega arith, λ e. omega (arith, e))
 command_starts kind.Init h = starts ESC _ esc
-command_starts (kind.Mode n) h = starts ESC _ esc
-command_starts (kind.Emphasis n) h = starts ESC _ esc
-command_starts (kind.DoubleStrike n) h = starts ESC _ esc
-command_starts (kind.Underline n) h = starts ESC _ esc
-command_starts (kind.Font n) h = starts ESC _ esc
-command_starts (kind.Table n) h = starts ESC _ esc
-command_starts (kind.CharacterSet n) h = starts ESC _ esc
-command_starts (kind.Reverse n) h = starts GS _ gs
-command_starts (kind.Smoothing n) h = starts GS _ gs
-command_starts (kind.UpsideDown n) h = starts ESC _ esc
-command_starts (kind.Align n) h = starts ESC _ esc
-command_starts (kind.LineSpacing n) h = starts ESC _ esc
-command_starts kind.DefaultSpacing h = starts ESC _ esc
+command_starts (kind.Set s) h = starts (row_for table s.0).first _ (first_is_start s.0)
 command_starts (kind.FeedLines n) h = starts ESC _ esc
 command_starts (kind.FeedUnits n) h = starts ESC _ esc
 command_starts (kind.Pulse pulse) h = starts ESC _ esc
-command_starts (kind.Size n) h = starts GS _ gs
-command_starts (kind.BarHeight n) h = starts GS _ gs
-command_starts (kind.BarWidth n) h = starts GS _ gs
-command_starts (kind.HriPlace n) h = starts GS _ gs
-command_starts (kind.HriFont n) h = starts GS _ gs
 command_starts (kind.Bars bars) h = starts GS _ gs
 command_starts (kind.Raster raster) h = starts GS _ gs
 command_starts (kind.QrModel n) h = starts GS _ gs

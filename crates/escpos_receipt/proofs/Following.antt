@@ -1,9 +1,10 @@
 -- What one more command does: whether there is text in the line then, and whether each command may follow those before it.
-use Rattle.std.proofs.Common.{◌≡◌, ◌+◌, ◌<◌, ℕ, List, [], ◌∷◌, ◌++◌, ◌⊎◌, inl, inr, refl, sym, ◌∙◌, ap, subst, append_assoc, append-nil, arith, take, drop, get_or, Bool, true, false, cond}
+use Rattle.std.proofs.Common.{◌≡◌, ◌+◌, ◌<◌, ℕ, List, [], ◌∷◌, ◌++◌, ◌⊎◌, inl, inr, refl, sym, ◌∙◌, ap, subst, append_assoc, append-nil, arith, take, drop, get_or, Bool, true, false, cond, Some}
 use Rattle.std.specs.Prelude.{◌||◌, ◌&&◌, ◌==◌, not, length}
 use Rattle.std.proofs.lemmas.List.{length-take-le}
 use Rattle.escpos_command.specs.declared.command.Command.{Command}
-use Rattle.escpos_command.specs.declared.command.Command.TheVariants.{Char, LineFeed, QrPrint, Table}
+use Rattle.escpos_command.specs.declared.command.Command.TheVariants.{Char, LineFeed, QrPrint, Set}
+use Rattle.escpos_command.specs.declared.setting.SettingKind.TheVariants as sets
 use Rattle.escpos_command.specs.Text.{text, ends_line, ends_text, characters}
 use Rattle.escpos_command.proofs.Lines.{text-snoc}
 use Rattle.escpos_receipt.specs.SpelledText.{AreOfLines, text_left}
@@ -80,7 +81,7 @@ character_follows cs b = record { allowed = refl; at_line_start = λ e. cc }
 pub line_feed_follows : (cs : List Command) → MayFollow cs LineFeed
 line_feed_follows cs = record { allowed = refl; at_line_start = λ e. cc }
 
-table_follows : (cs : List Command) (n : ℕ) → MayFollow cs (Table n)
+table_follows : (cs : List Command) (n : ℕ) → MayFollow cs (Set (sets.Table, Some n))
 table_follows cs n = record { allowed = refl; at_line_start = λ e. cc }
 
 pub text_follows : (cs ts : List Command) → AreOfLines ts → EachMayFollow cs → EachMayFollow (cs ++ ts)
@@ -88,9 +89,9 @@ text_follows cs [] t each = subst EachMayFollow (sym (append-nil cs)) each
 text_follows cs (Char b ∷ ts) (least, most, t) each =
     subst EachMayFollow (append_assoc cs (Char b ∷ []) ts)
     (text_follows (cs ++ Char b ∷ []) ts t (one_more_follows cs (Char b) each (character_follows cs b)))
-text_follows cs (Table n ∷ ts) (first, t) each =
-    subst EachMayFollow (append_assoc cs (Table n ∷ []) ts)
-    (text_follows (cs ++ Table n ∷ []) ts t (one_more_follows cs (Table n) each (table_follows cs n)))
+text_follows cs (Set (sets.Table, Some n) ∷ ts) (first, t) each =
+    subst EachMayFollow (append_assoc cs (Set (sets.Table, Some n) ∷ []) ts)
+    (text_follows (cs ++ Set (sets.Table, Some n) ∷ []) ts t (one_more_follows cs (Set (sets.Table, Some n)) each (table_follows cs n)))
 text_follows cs (LineFeed ∷ ts) t each =
     subst EachMayFollow (append_assoc cs (LineFeed ∷ []) ts)
     (text_follows (cs ++ LineFeed ∷ []) ts t (one_more_follows cs LineFeed each (line_feed_follows cs)))
@@ -107,8 +108,8 @@ and_true : (a : Bool) → (a && true) ≡ a
 and_true true = refl
 and_true false = refl
 
-table_flag : (cs : List Command) (n : ℕ) → has_text (cs ++ Table n ∷ []) ≡ has_text cs
-table_flag cs n = has_text-snoc cs (Table n) (table_follows cs n) ∙ and_true (has_text cs)
+table_flag : (cs : List Command) (n : ℕ) → has_text (cs ++ Set (sets.Table, Some n) ∷ []) ≡ has_text cs
+table_flag cs n = has_text-snoc cs (Set (sets.Table, Some n)) (table_follows cs n) ∙ and_true (has_text cs)
 
 -- Whether there is text in the line after a text.
 pub text_goes : (cs ts : List Command) → AreOfLines ts → has_text (cs ++ ts) ≡ text_left (has_text cs) ts
@@ -116,8 +117,8 @@ text_goes cs [] t = ap has_text (append-nil cs)
 text_goes cs (Char b ∷ ts) (least, most, t) =
     ap has_text (sym (append_assoc cs (Char b ∷ []) ts)) ∙ text_goes (cs ++ Char b ∷ []) ts t
     ∙ ap (λ v. text_left v ts) (sym (after_a_character cs (Char b) (character_follows cs b) refl))
-text_goes cs (Table n ∷ ts) (first, t) =
-    ap has_text (sym (append_assoc cs (Table n ∷ []) ts)) ∙ text_goes (cs ++ Table n ∷ []) ts t
+text_goes cs (Set (sets.Table, Some n) ∷ ts) (first, t) =
+    ap has_text (sym (append_assoc cs (Set (sets.Table, Some n) ∷ []) ts)) ∙ text_goes (cs ++ Set (sets.Table, Some n) ∷ []) ts t
     ∙ ap (λ v. text_left v ts) (table_flag cs n)
 text_goes cs (LineFeed ∷ ts) t =
     ap has_text (sym (append_assoc cs (LineFeed ∷ []) ts)) ∙ text_goes (cs ++ LineFeed ∷ []) ts t

@@ -4,7 +4,8 @@ use Rattle.std.specs.Prelude.{◌&&◌, Result, nat_le}
 use Rattle.std.specs.List.{AllByRecursion, list_all}
 use Rattle.std.proofs.lemmas.Bool.{leb-true, le-leb}
 use Rattle.escpos_command.specs.declared.command.Command.{Command}
-use Rattle.escpos_command.specs.declared.command.Command.TheVariants.{Char, LineFeed, Table}
+use Rattle.escpos_command.specs.declared.command.Command.TheVariants.{Char, LineFeed, Set}
+use Rattle.escpos_command.specs.declared.setting.SettingKind.TheVariants as sets
 use Rattle.escpos_command.specs.CommandTable.{spell}
 use Rattle.escpos_text.specs.declared.encoding.Encoding.{Encoding}
 use Rattle.escpos_text.specs.declared.encoding.TextFault.{TextFault}
@@ -36,7 +37,7 @@ begins_still (c ∷ ts) more first = absurd first
 one_line : (ts more : List Command) → AreOfText ts → AreOfLines more → AreOfLines (ts ++ LineFeed ∷ more)
 one_line [] more t m = m
 one_line (Char b ∷ ts) more (least, most, t) m = (least, most, one_line ts more t m)
-one_line (Table n ∷ ts) more (first, t) m = (begins_still ts (LineFeed ∷ more) first, one_line ts more t m)
+one_line (Set (sets.Table, Some n) ∷ ts) more (first, t) m = (begins_still ts (LineFeed ∷ more) first, one_line ts more t m)
 one_line (c ∷ ts) more t m = absurd t
 
 are_lines : (e : Encoding) (lines : List (List ℕ)) (cs : List Command) → lines_written e lines ≡ Ok cs → AreOfLines cs

@@ -1,9 +1,10 @@
 -- What a line is like after a text, and what the last byte of a text says of it.
-use Rattle.std.proofs.Common.{◌≡◌, ℕ, zero, suc, ◌+◌, ◌-◌, ◌<◌, ◌≤◌, List, [], ◌∷◌, ◌++◌, length, take, refl, sym, ◌∙◌, ap, arith, Bool, true, false, slice_index_or}
+use Rattle.std.proofs.Common.{◌≡◌, ℕ, zero, suc, ◌+◌, ◌-◌, ◌<◌, ◌≤◌, List, [], ◌∷◌, ◌++◌, length, take, refl, sym, ◌∙◌, ap, arith, Bool, true, false, slice_index_or, Some}
 use Rattle.std.specs.Prelude.{◌==◌, ◌&&◌, not}
 use Rattle.escpos_command.specs.declared.bytes.TheConstants.{LF}
 use Rattle.escpos_command.specs.declared.command.Command.{Command}
-use Rattle.escpos_command.specs.declared.command.Command.TheVariants.{Char, LineFeed, Table}
+use Rattle.escpos_command.specs.declared.command.Command.TheVariants.{Char, LineFeed, Set}
+use Rattle.escpos_command.specs.declared.setting.SettingKind.TheVariants as sets
 use Rattle.escpos_receipt.specs.declared.in_force.LineState.{LineState}
 use Rattle.escpos_receipt.specs.EntryCommands.{line_after, line_step}
 use Rattle.escpos_receipt.specs.SpelledText.{AreOfLines, IsTextBytes, lines_commands, text_left}
@@ -20,7 +21,7 @@ and_true false = refl
 pub text_line : (l : LineState) (ts : List Command) → AreOfLines ts → line_after l ts ≡ record l { in_line = text_left l.in_line ts }
 text_line l [] t = refl
 text_line l (Char b ∷ ts) (least, most, t) = text_line (record l { in_line = true }) ts t
-text_line l (Table n ∷ ts) (first, t) = ap (λ b. line_after (record l { in_line = b }) ts) (and_true l.in_line) ∙ text_line l ts t
+text_line l (Set (sets.Table, Some n) ∷ ts) (first, t) = ap (λ b. line_after (record l { in_line = b }) ts) (and_true l.in_line) ∙ text_line l ts t
 text_line l (LineFeed ∷ ts) t = ap (λ b. line_after (record l { in_line = b }) ts) (and_false l.in_line) ∙ text_line (record l { in_line = false }) ts t
 text_line l (c ∷ ts) t = absurd t
 

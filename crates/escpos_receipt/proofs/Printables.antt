@@ -1,9 +1,10 @@
 -- What one more command adds to the codes that a printer leaves out.
-use Rattle.std.proofs.Common.{◌≡◌, ◌+◌, ◌<◌, ℕ, List, [], ◌∷◌, ◌++◌, inl, inr, refl, sym, ◌∙◌, ap, subst, append_assoc, append-nil, arith, take, drop, get_or, Bool, true, false, IsTrue}
+use Rattle.std.proofs.Common.{◌≡◌, ◌+◌, ◌<◌, ℕ, List, [], ◌∷◌, ◌++◌, inl, inr, refl, sym, ◌∙◌, ap, subst, append_assoc, append-nil, arith, take, drop, get_or, Bool, true, false, IsTrue, Some}
 use Rattle.std.specs.Prelude.{length, not}
 use Rattle.std.proofs.lemmas.List.{length-take-le}
 use Rattle.escpos_command.specs.declared.command.Command.{Command}
-use Rattle.escpos_command.specs.declared.command.Command.TheVariants.{Char, LineFeed, Table}
+use Rattle.escpos_command.specs.declared.command.Command.TheVariants.{Char, LineFeed, Set}
+use Rattle.escpos_command.specs.declared.setting.SettingKind.TheVariants as sets
 use Rattle.escpos_command.specs.declared.parameter.choices.Correction.TheVariants.{L}
 use Rattle.escpos_command.proofs.Settings.{setting-snoc, stored-snoc}
 use Rattle.escpos_paper.specs.Styles.{sets_correction, sets_module_width, sets_qr_size}
@@ -33,10 +34,10 @@ text_printable width cs (Char b ∷ ts) (least, most, t) each =
     let more = text_printable width (cs ++ Char b ∷ []) ts t (one_more_printable width cs (Char b) each refl) in
     let joined = append_assoc cs (Char b ∷ []) ts in
     (subst (IsPrintable width) joined more.0, ap code_settings (sym joined) ∙ more.1 ∙ code_settings-snoc cs (Char b))
-text_printable width cs (Table n ∷ ts) (first, t) each =
-    let more = text_printable width (cs ++ Table n ∷ []) ts t (one_more_printable width cs (Table n) each refl) in
-    let joined = append_assoc cs (Table n ∷ []) ts in
-    (subst (IsPrintable width) joined more.0, ap code_settings (sym joined) ∙ more.1 ∙ code_settings-snoc cs (Table n))
+text_printable width cs (Set (sets.Table, Some n) ∷ ts) (first, t) each =
+    let more = text_printable width (cs ++ Set (sets.Table, Some n) ∷ []) ts t (one_more_printable width cs (Set (sets.Table, Some n)) each refl) in
+    let joined = append_assoc cs (Set (sets.Table, Some n) ∷ []) ts in
+    (subst (IsPrintable width) joined more.0, ap code_settings (sym joined) ∙ more.1 ∙ code_settings-snoc cs (Set (sets.Table, Some n)))
 text_printable width cs (LineFeed ∷ ts) t each =
     let more = text_printable width (cs ++ LineFeed ∷ []) ts t (one_more_printable width cs LineFeed each refl) in
     let joined = append_assoc cs (LineFeed ∷ []) ts in

@@ -11,7 +11,9 @@ use Rattle.escpos_command.specs.declared.command.Command.{Command}
 use Rattle.escpos_command.specs.declared.bars.Symbology.{Symbology}
 use Rattle.escpos_command.specs.declared.bars.Form.TheVariants.{B}
 use Rattle.escpos_command.specs.declared.command.Command.TheVariants as kind
-use Rattle.escpos_command.specs.declared.command.Command.TheVariants.{Char, LineFeed, Table}
+use Rattle.escpos_command.specs.CommandTable.{set_to}
+use Rattle.escpos_command.specs.declared.setting.SettingKind.TheVariants as sets
+use Rattle.escpos_command.specs.declared.command.Command.TheVariants.{Char, LineFeed, Set}
 use Rattle.escpos_command.specs.Barcodes.{barcode, is_barcode}
 use Rattle.escpos_command.specs.QrCodes.{is_qr_data}
 use Rattle.escpos_command.specs.Rasters.{picture, is_raster}
@@ -45,8 +47,8 @@ text_read before [] h = refl
 text_read before (Char b ∷ cs) h =
     ap (λ l. reads (style before).character_set (style before).table b ∷ l) (text_read (before ++ Char b ∷ []) cs h.2)
     ∙ ap (λ (s : Style). reads (style before).character_set (style before).table b ∷ read_back s.character_set s.table cs) (style-snoc before (Char b))
-text_read before (Table n ∷ cs) h =
-    text_read (before ++ Table n ∷ []) cs h.1 ∙ ap (λ (s : Style). read_back s.character_set s.table cs) (style-snoc before (Table n))
+text_read before (Set (sets.Table, Some n) ∷ cs) h =
+    text_read (before ++ Set (sets.Table, Some n) ∷ []) cs h.1 ∙ ap (λ (s : Style). read_back s.character_set s.table cs) (style-snoc before (Set (sets.Table, Some n)))
 text_read before (c ∷ cs) h = absurd h
 
 -- A line feed has no cell.
@@ -131,8 +133,8 @@ where_true true x c h e = of_some x c e h
 where_true false x c h e = absurd cc
 
 spacing_silent : (v : Data) (c : Command) → spacing_in v ≡ Some c → IsSilent c
-spacing_silent (json.string name) c e = where_true (bytes_eq name (codes "default")) kind.DefaultSpacing c refl e
-spacing_silent v c e = mapped kind.LineSpacing (λ _. refl) (number_in 0 255 v) c e
+spacing_silent (json.string name) c e = where_true (bytes_eq name (codes "default")) (kind.Set (sets.DefaultSpacing, None)) c refl e
+spacing_silent v c e = mapped (set_to sets.LineSpacing) (λ _. refl) (number_in 0 255 v) c e
 
 bars_silent : (p : Symbology × List ℕ) (c : Command) → bars_of p.0 p.1 ≡ Some c → IsSilent c
 bars_silent p c e = where_true (is_barcode (barcode B p.0 p.1)) (kind.Bars (barcode B p.0 p.1)) c refl e
@@ -146,21 +148,21 @@ command_silent has.Feed v c e = mapped kind.FeedLines (λ _. refl) _ c e
 command_silent has.Units v c e = mapped kind.FeedUnits (λ _. refl) _ c e
 command_silent has.Spacing v c e = spacing_silent v c e
 command_silent has.Pulse v c e = mapped kind.Pulse (λ _. refl) _ c e
-command_silent has.Mode v c e = mapped kind.Mode (λ _. refl) _ c e
+command_silent has.Mode v c e = mapped (set_to sets.Mode) (λ _. refl) _ c e
 command_silent has.Bold v c e = mapped _ (λ _. refl) _ c e
-command_silent has.Strike v c e = mapped kind.DoubleStrike (λ _. refl) _ c e
-command_silent has.Reverse v c e = mapped kind.Reverse (λ _. refl) _ c e
-command_silent has.Underline v c e = mapped kind.Underline (λ _. refl) _ c e
-command_silent has.Font v c e = mapped kind.Font (λ _. refl) _ c e
-command_silent has.Table v c e = mapped kind.Table (λ _. refl) _ c e
-command_silent has.CharacterSet v c e = mapped kind.CharacterSet (λ _. refl) _ c e
-command_silent has.Align v c e = mapped kind.Align (λ _. refl) _ c e
-command_silent has.Upside v c e = mapped kind.UpsideDown (λ _. refl) _ c e
-command_silent has.Size v c e = mapped kind.Size (λ _. refl) _ c e
-command_silent has.BarHeight v c e = mapped kind.BarHeight (λ _. refl) _ c e
-command_silent has.BarWidth v c e = mapped kind.BarWidth (λ _. refl) _ c e
-command_silent has.Hri v c e = mapped kind.HriPlace (λ _. refl) _ c e
-command_silent has.HriFont v c e = mapped kind.HriFont (λ _. refl) _ c e
+command_silent has.Strike v c e = mapped (set_to sets.DoubleStrike) (λ _. refl) _ c e
+command_silent has.Reverse v c e = mapped (set_to sets.Reverse) (λ _. refl) _ c e
+command_silent has.Underline v c e = mapped (set_to sets.Underline) (λ _. refl) _ c e
+command_silent has.Font v c e = mapped (set_to sets.Font) (λ _. refl) _ c e
+command_silent has.Table v c e = mapped (set_to sets.Table) (λ _. refl) _ c e
+command_silent has.CharacterSet v c e = mapped (set_to sets.CharacterSet) (λ _. refl) _ c e
+command_silent has.Align v c e = mapped (set_to sets.Align) (λ _. refl) _ c e
+command_silent has.Upside v c e = mapped (set_to sets.UpsideDown) (λ _. refl) _ c e
+command_silent has.Size v c e = mapped (set_to sets.Size) (λ _. refl) _ c e
+command_silent has.BarHeight v c e = mapped (set_to sets.BarHeight) (λ _. refl) _ c e
+command_silent has.BarWidth v c e = mapped (set_to sets.BarWidth) (λ _. refl) _ c e
+command_silent has.Hri v c e = mapped (set_to sets.HriPlace) (λ _. refl) _ c e
+command_silent has.HriFont v c e = mapped (set_to sets.HriFont) (λ _. refl) _ c e
 command_silent has.Bars v c e = chained (λ (p : Symbology × List ℕ). bars_of p.0 p.1) bars_silent (symbology_and_content v) c e
 command_silent has.Raster v c e =
     chained (λ (p : ℕ × ℕ × ℕ × List ℕ). bytes_of (decode_of p.3) >>= raster_of p.0 p.1 p.2)

@@ -1,8 +1,10 @@
 -- What one more command adds to the real-time commands that the bytes of commands hold: nothing, where it holds none itself.
-use Rattle.std.proofs.Common.{◌≡◌, inl, inr, ℕ, true, false, List, [], ◌∷◌, ◌++◌, refl, sym, ◌∙◌, subst, append_assoc, append-nil}
+use Rattle.std.proofs.Common.{◌≡◌, inl, inr, ℕ, true, false, List, [], ◌∷◌, ◌++◌, refl, sym, ◌∙◌, subst, append_assoc, append-nil, Some}
 use Rattle.std.proofs.lemmas.Grind.{flat_map-append}
 use Rattle.escpos_command.specs.declared.command.Command.{Command}
-use Rattle.escpos_command.specs.declared.command.Command.TheVariants.{Char, LineFeed, Table}
+use Rattle.escpos_command.specs.declared.command.Command.TheVariants.{Char, LineFeed, Set}
+use Rattle.escpos_command.specs.SettingTable.{table}
+use Rattle.escpos_command.specs.declared.setting.SettingKind.TheVariants as sets
 use Rattle.escpos_command.specs.CommandTable.{IsCommand, row, spell}
 use Rattle.escpos_real_time.specs.RealTime.{HoldsRealTime}
 use Rattle.escpos_real_time.specs.Scan.{holds}
@@ -39,13 +41,14 @@ line_feed_quiet cs quiet = one_more cs LineFeed line_feed_starts quiet (none_fou
 
 -- A text holds none.
 pub text_quiet : (cs ts : List Command) → AreOfLines ts → HoldNoRealTime cs → HoldNoRealTime (cs ++ ts)
+unfolding table
 text_quiet cs [] t quiet = subst HoldNoRealTime (sym (append-nil cs)) quiet
 text_quiet cs (Char b ∷ ts) (least, most, t) quiet =
     subst HoldNoRealTime (append_assoc cs (Char b ∷ []) ts)
     (text_quiet (cs ++ Char b ∷ []) ts t (one_more cs (Char b) (character_starts b least) quiet (none_found (row (Char b)) refl)))
-text_quiet cs (Table n ∷ ts) (first, t) quiet =
-    subst HoldNoRealTime (append_assoc cs (Table n ∷ []) ts)
-    (text_quiet (cs ++ Table n ∷ []) ts t (one_more cs (Table n) (escape_starts (0x74 ∷ n ∷ [])) quiet (none_found (row (Table n)) refl)))
+text_quiet cs (Set (sets.Table, Some n) ∷ ts) (first, t) quiet =
+    subst HoldNoRealTime (append_assoc cs (Set (sets.Table, Some n) ∷ []) ts)
+    (text_quiet (cs ++ Set (sets.Table, Some n) ∷ []) ts t (one_more cs (Set (sets.Table, Some n)) (escape_starts (0x74 ∷ n ∷ [])) quiet (none_found (row (Set (sets.Table, Some n))) refl)))
 text_quiet cs (LineFeed ∷ ts) t quiet =
     subst HoldNoRealTime (append_assoc cs (LineFeed ∷ []) ts) (text_quiet (cs ++ LineFeed ∷ []) ts t (line_feed_quiet cs quiet))
 text_quiet cs (c ∷ ts) t quiet = absurd t

@@ -1,12 +1,14 @@
 -- Bytes of a text, and the commands that they spell.
-use Rattle.std.proofs.Common.{◌≡◌, ℕ, ◌<◌, ◌≤◌, ◌≢◌, List, [], ◌∷◌, ◌++◌, Bool, true, false, IsTrue, refl, sym, ◌∙◌, ap, subst, cond, map, arith}
+use Rattle.std.proofs.Common.{◌≡◌, ℕ, ◌<◌, ◌≤◌, ◌≢◌, List, [], ◌∷◌, ◌++◌, Bool, true, false, IsTrue, refl, sym, ◌∙◌, ap, subst, cond, map, arith, Some}
 use Rattle.std.specs.Prelude.{◌==◌, length, not, Option, None}
 use Rattle.std.specs.Option.{unwrap_or}
 use Rattle.std.proofs.lemmas.Bool.{cond-false}
 use Rattle.std.proofs.lemmas.Bool.Decides.{nat_tests}
 use Rattle.escpos_command.specs.declared.bytes.TheConstants.{ESC, LF}
 use Rattle.escpos_command.specs.declared.command.Command.{Command}
-use Rattle.escpos_command.specs.declared.command.Command.TheVariants.{Char, LineFeed, Table}
+use Rattle.escpos_command.specs.declared.command.Command.TheVariants.{Char, LineFeed, Set}
+use Rattle.escpos_command.specs.SettingTable.{table}
+use Rattle.escpos_command.specs.declared.setting.SettingKind.TheVariants as sets
 use Rattle.escpos_command.specs.CommandTable.{spell}
 use Rattle.escpos_command.specs.Parameters.{is_character}
 use Rattle.escpos_paper.specs.Styles.{set_after}
@@ -22,7 +24,7 @@ use Rattle.escpos_receipt.specs.Whole.{is_nonempty}
 pub of_text : (cs : List Command) → AreOfText cs → AreOfLines cs
 of_text [] t = tt
 of_text (Char b ∷ cs) (least, most, t) = (least, most, of_text cs t)
-of_text (Table n ∷ cs) (first, t) = (first, of_text cs t)
+of_text (Set (sets.Table, Some n) ∷ cs) (first, t) = (first, of_text cs t)
 of_text (c ∷ cs) t = absurd t
 
 no_escape : (b : ℕ) → IsTrue (is_character b) → (b == ESC) ≡ false
@@ -32,12 +34,13 @@ no_line_feed : (b : ℕ) → IsTrue (is_character b) → (b == LF) ≡ false
 no_line_feed b h = grind (arith, nat_tests)
 
 read_lines : (cs : List Command) → AreOfLines cs → commands_from 0 (spell cs) ≡ cs
+unfolding table
 read_lines [] t = refl
 read_lines (Char b ∷ cs) (least, most, t) =
     let other : (b == ESC) ≡ false = grind (arith, nat_tests) in
     let more : (b == LF) ≡ false = grind (arith, nat_tests) in
     cond-false _ _ _ other ∙ ap (λ x. x ∷ commands_from 0 (spell cs)) (cond-false _ _ _ more) ∙ ap (λ l. Char b ∷ l) (read_lines cs t)
-read_lines (Table n ∷ cs) (first, t) = ap (λ l. Table n ∷ l) (read_lines cs t)
+read_lines (Set (sets.Table, Some n) ∷ cs) (first, t) = ap (λ l. Set (sets.Table, Some n) ∷ l) (read_lines cs t)
 read_lines (LineFeed ∷ cs) t = ap (λ l. LineFeed ∷ l) (read_lines cs t)
 read_lines (c ∷ cs) t = absurd t
 
@@ -64,14 +67,14 @@ given_bytes bs t = (
 pub table_set : (t : ℕ) (cs : List Command) → AreOfLines cs → value_after sets_table 0 t cs ≡ table_after t cs
 table_set t [] h = refl
 table_set t (Char b ∷ cs) (least, most, h) = table_set t cs h
-table_set t (Table n ∷ cs) (first, h) = table_set n cs h
+table_set t (Set (sets.Table, Some n) ∷ cs) (first, h) = table_set n cs h
 table_set t (LineFeed ∷ cs) h = table_set t cs h
 table_set t (c ∷ cs) h = absurd h
 
 pub no_set : (s : ℕ) (cs : List Command) → AreOfLines cs → value_after sets_character_set 0 s cs ≡ s
 no_set s [] h = refl
 no_set s (Char b ∷ cs) (least, most, h) = no_set s cs h
-no_set s (Table n ∷ cs) (first, h) = no_set s cs h
+no_set s (Set (sets.Table, Some n) ∷ cs) (first, h) = no_set s cs h
 no_set s (LineFeed ∷ cs) h = no_set s cs h
 no_set s (c ∷ cs) h = absurd h
 
@@ -106,9 +109,10 @@ pub next_of_line : (e : Encoding) (cs : List Command) → with_commands e (cs ++
 next_of_line e cs = cc (fed sets_character_set 0 cs e.set refl, fed sets_table 0 cs e.table refl)
 
 pub is_nonempty_spelled : (cs : List Command) → AreOfLines cs → (length (spell cs) == 0) ≡ not (is_nonempty cs)
+unfolding table
 is_nonempty_spelled [] h = refl
 is_nonempty_spelled (Char b ∷ cs) h = grind (arith, nat_tests)
-is_nonempty_spelled (Table n ∷ cs) h = grind (arith, nat_tests)
+is_nonempty_spelled (Set (sets.Table, Some n) ∷ cs) h = grind (arith, nat_tests)
 is_nonempty_spelled (LineFeed ∷ cs) h = grind (arith, nat_tests)
 is_nonempty_spelled (c ∷ cs) h = absurd h
 
@@ -118,9 +122,10 @@ in_range b h k = grind (arith, nat_tests)
 -- ## The last byte
 
 none_spelled_so : (cs : List Command) → AreOfLines cs → spell cs ≡ [] → cs ≡ []
+unfolding table
 none_spelled_so [] t e = refl
 none_spelled_so (Char b ∷ cs) t e = absurd cc
-none_spelled_so (Table n ∷ cs) t e = absurd cc
+none_spelled_so (Set (sets.Table, Some n) ∷ cs) t e = absurd cc
 none_spelled_so (LineFeed ∷ cs) t e = absurd cc
 none_spelled_so (c ∷ cs) t e = absurd t
 
@@ -131,6 +136,7 @@ begins_with_a_byte (c ∷ cs) first e = first
 
 -- There is text in the line unless the last byte is LF.
 pub last_byte : (in_line : Bool) (cs : List Command) (front : List ℕ) (b : ℕ) → AreOfLines cs → spell cs ≡ front ++ b ∷ [] → text_left in_line cs ≡ not (b == LF)
+unfolding table
 last_byte in_line [] [] b t e = absurd cc
 last_byte in_line [] (f ∷ front) b t e = absurd cc
 last_byte in_line (Char c ∷ cs) [] b (least, most, t) e =
@@ -147,12 +153,12 @@ last_byte in_line (LineFeed ∷ cs) [] b t e =
 last_byte in_line (LineFeed ∷ cs) (f ∷ front) b t e =
     let rest : spell cs ≡ front ++ b ∷ [] = cc in
     last_byte false cs front b t rest
-last_byte in_line (Table n ∷ cs) [] b (first, t) e = absurd cc
-last_byte in_line (Table n ∷ cs) (f ∷ []) b (first, t) e = absurd cc
-last_byte in_line (Table n ∷ cs) (f ∷ g ∷ []) b (first, t) e =
+last_byte in_line (Set (sets.Table, Some n) ∷ cs) [] b (first, t) e = absurd cc
+last_byte in_line (Set (sets.Table, Some n) ∷ cs) (f ∷ []) b (first, t) e = absurd cc
+last_byte in_line (Set (sets.Table, Some n) ∷ cs) (f ∷ g ∷ []) b (first, t) e =
     let rest : spell cs ≡ [] = cc in
     absurd (begins_with_a_byte cs first rest)
-last_byte in_line (Table n ∷ cs) (f ∷ g ∷ h ∷ front) b (first, t) e =
+last_byte in_line (Set (sets.Table, Some n) ∷ cs) (f ∷ g ∷ h ∷ front) b (first, t) e =
     let rest : spell cs ≡ front ++ b ∷ [] = cc in
     last_byte in_line cs front b t rest
 last_byte in_line (c ∷ cs) front b t e = absurd t
@@ -163,16 +169,17 @@ nothing_left in_line bytes e = ap (λ l. text_left in_line (commands_from 0 l)) 
 
 -- ## The first command
 
-escape_read : (a b n : ℕ) (rest : List ℕ) → a ≡ ESC → lines_commands (a ∷ b ∷ n ∷ rest) ≡ Table n ∷ lines_commands rest
+escape_read : (a b n : ℕ) (rest : List ℕ) → a ≡ ESC → lines_commands (a ∷ b ∷ n ∷ rest) ≡ Set (sets.Table, Some n) ∷ lines_commands rest
 unfolding lines_commands
 escape_read a b n rest e = ap (λ x. commands_from 0 (x ∷ b ∷ n ∷ rest)) e
 
 -- A text that begins with ESC begins with a code table.
 pub table_first : (bytes : List ℕ) (a b n : ℕ) (rest : List ℕ) → bytes ≡ a ∷ b ∷ n ∷ rest → a ≡ ESC → IsTextBytes bytes
-    → (lines_commands bytes ≡ Table n ∷ lines_commands rest) × IsTextBytes rest × (length rest < length bytes)
+    → (lines_commands bytes ≡ Set (sets.Table, Some n) ∷ lines_commands rest) × IsTextBytes rest × (length rest < length bytes)
+unfolding table
 table_first bytes a b n rest is e (spelled, t) =
-    let first : lines_commands bytes ≡ Table n ∷ lines_commands rest = ap lines_commands is ∙ escape_read a b n rest e in
-    let whole : a ∷ b ∷ n ∷ rest ≡ spell (Table n ∷ lines_commands rest) = sym is ∙ spelled ∙ ap spell first in
+    let first : lines_commands bytes ≡ Set (sets.Table, Some n) ∷ lines_commands rest = ap lines_commands is ∙ escape_read a b n rest e in
+    let whole : a ∷ b ∷ n ∷ rest ≡ spell (Set (sets.Table, Some n) ∷ lines_commands rest) = sym is ∙ spelled ∙ ap spell first in
     let same : rest ≡ spell (lines_commands rest) = cc in
     let long = ap length is in
     (first, (same, (subst AreOfLines first t).1), omega (arith, long))

@@ -14,6 +14,8 @@ use Rattle.escpos_command.specs.declared.bars.Symbology.{Symbology}
 use Rattle.escpos_command.specs.declared.bars.Symbology.TheVariants.{UpcA, Ean13, Ean8, Code39, Itf, Codabar, Code128}
 use Rattle.escpos_command.specs.declared.command.Command.{Command}
 use Rattle.escpos_command.specs.declared.command.Command.TheVariants as kind
+use Rattle.escpos_command.specs.CommandTable.{set_to}
+use Rattle.escpos_command.specs.declared.setting.SettingKind.TheVariants as sets
 use Rattle.escpos_command.specs.Barcodes.{barcode, is_barcode}
 use Rattle.escpos_command.specs.QrCodes.{is_qr_data}
 use Rattle.escpos_command.specs.Rasters.{picture, is_raster, widest, highest}
@@ -123,8 +125,8 @@ size_in _ = None
 
 -- A line spacing: the string "default", or a number of motion units.
 abbrev pub spacing_in : Data → Option Command
-spacing_in (string name) = if bytes_eq name (codes "default") then Some kind.DefaultSpacing else None
-spacing_in v = option_map kind.LineSpacing (number_in 0 255 v)
+spacing_in (string name) = if bytes_eq name (codes "default") then Some (kind.Set (sets.DefaultSpacing, None)) else None
+spacing_in v = option_map (set_to sets.LineSpacing) (number_in 0 255 v)
 
 abbrev pub pulse_in : Data → Option (ℕ × ℕ × ℕ)
 pulse_in v = do
@@ -328,21 +330,21 @@ command_of has.Feed v = option_map kind.FeedLines (number_in 0 255 v)
 command_of has.Units v = option_map kind.FeedUnits (number_in 0 255 v)
 command_of has.Spacing v = spacing_in v
 command_of has.Pulse v = option_map kind.Pulse (pulse_in v)
-command_of has.Mode v = option_map kind.Mode (number_in 0 255 v)
-command_of has.Bold v = option_map (λ on. kind.Emphasis (if on then 1 else 0)) (as_bool v)
-command_of has.Strike v = option_map kind.DoubleStrike (switch_in v)
-command_of has.Reverse v = option_map kind.Reverse (switch_in v)
-command_of has.Underline v = option_map kind.Underline (number_in 0 2 v)
-command_of has.Font v = option_map kind.Font (choice_in fonts v)
-command_of has.Table v = option_map kind.Table (number_in 0 255 v)
-command_of has.CharacterSet v = option_map kind.CharacterSet (number_in 0 17 v)
-command_of has.Align v = option_map kind.Align (choice_in alignments v)
-command_of has.Upside v = option_map kind.UpsideDown (switch_in v)
-command_of has.Size v = option_map kind.Size (size_in v)
-command_of has.BarHeight v = option_map kind.BarHeight (number_in 1 255 v)
-command_of has.BarWidth v = option_map kind.BarWidth (number_in 2 6 v)
-command_of has.Hri v = option_map kind.HriPlace (choice_in hri_positions v)
-command_of has.HriFont v = option_map kind.HriFont (choice_in fonts v)
+command_of has.Mode v = option_map (set_to sets.Mode) (number_in 0 255 v)
+command_of has.Bold v = option_map (λ on. set_to sets.Emphasis (if on then 1 else 0)) (as_bool v)
+command_of has.Strike v = option_map (set_to sets.DoubleStrike) (switch_in v)
+command_of has.Reverse v = option_map (set_to sets.Reverse) (switch_in v)
+command_of has.Underline v = option_map (set_to sets.Underline) (number_in 0 2 v)
+command_of has.Font v = option_map (set_to sets.Font) (choice_in fonts v)
+command_of has.Table v = option_map (set_to sets.Table) (number_in 0 255 v)
+command_of has.CharacterSet v = option_map (set_to sets.CharacterSet) (number_in 0 17 v)
+command_of has.Align v = option_map (set_to sets.Align) (choice_in alignments v)
+command_of has.Upside v = option_map (set_to sets.UpsideDown) (switch_in v)
+command_of has.Size v = option_map (set_to sets.Size) (size_in v)
+command_of has.BarHeight v = option_map (set_to sets.BarHeight) (number_in 1 255 v)
+command_of has.BarWidth v = option_map (set_to sets.BarWidth) (number_in 2 6 v)
+command_of has.Hri v = option_map (set_to sets.HriPlace) (choice_in hri_positions v)
+command_of has.HriFont v = option_map (set_to sets.HriFont) (choice_in fonts v)
 command_of has.Bars v = bars_in v
 command_of has.Raster v = raster_in v
 command_of has.Cut v = option_map (λ m. kind.Cut (m, None)) (choice_in cuts v)

@@ -1,10 +1,11 @@
 -- The bytes of a text as it is sent: characters with their code tables, and line feeds. Only private clauses and proofs use these
 -- definitions.
-use Rattle.std.specs.Prelude.{ℕ, ◌≡◌, ◌==◌, ◌≤◌, ◌<◌, zero, suc, Bool, true, false, List, [], ◌∷◌, if◌then◌else◌}
+use Rattle.std.specs.Prelude.{ℕ, ◌≡◌, ◌==◌, ◌≤◌, ◌<◌, zero, suc, Bool, true, false, List, [], ◌∷◌, if◌then◌else◌, Some}
 use Rattle.escpos_command.specs.declared.bytes.TheConstants.{ESC, LF}
 use Rattle.escpos_command.specs.declared.command.Command.{Command}
 use Rattle.escpos_command.specs.declared.command.Command.TheVariants as kind
-use Rattle.escpos_command.specs.CommandTable.{spell}
+use Rattle.escpos_command.specs.declared.setting.SettingKind.TheVariants as sets
+use Rattle.escpos_command.specs.CommandTable.{spell, set_to}
 use Rattle.escpos_text.specs.SpelledTexts.{BeginsWithChar}
 use Rattle.escpos_receipt.specs.declared.spelled_text.TextBytes.{TextBytes}
 use Rattle.escpos_receipt.specs.declared.spelled_text.TextBytes.TheVariants.{Given, Made}
@@ -19,7 +20,7 @@ commands_from missing [] = []
 commands_from zero (b ∷ bs) =
     if b == ESC then commands_from 2 bs
     else (if b == LF then kind.LineFeed else kind.Char b) ∷ commands_from 0 bs
-commands_from (suc zero) (n ∷ bs) = kind.Table n ∷ commands_from 0 bs
+commands_from (suc zero) (n ∷ bs) = set_to sets.Table n ∷ commands_from 0 bs
 commands_from (suc (suc missing)) (b ∷ bs) = commands_from 1 bs
 
 -- ESC t n selects a table, LF ends a line, and any other byte is a character.
@@ -30,7 +31,7 @@ lines_commands bytes = commands_from 0 bytes
 abbrev pub AreOfLines : List Command → Type 0
 AreOfLines [] = Unit {0}
 AreOfLines (kind.Char b ∷ commands) = (0x20 ≤ b) × (b < 256) × AreOfLines commands
-AreOfLines (kind.Table n ∷ commands) = BeginsWithChar commands × AreOfLines commands
+AreOfLines (kind.Set (sets.Table, Some n) ∷ commands) = BeginsWithChar commands × AreOfLines commands
 AreOfLines (kind.LineFeed ∷ commands) = AreOfLines commands
 AreOfLines (_ ∷ commands) = ⊥
 

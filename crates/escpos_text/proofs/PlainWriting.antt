@@ -12,7 +12,8 @@ use Rattle.std.proofs.lemmas.Str.Ascii.{IsAscii-from_all}
 use Rattle.unicode_normalization.specs.Forms.{nfc, Nfc}
 use Rattle.unicode_normalization.proofs.FormsLemmas.{normalize-ascii}
 use Rattle.escpos_command.specs.declared.command.Command.TheVariants as kind
-use Rattle.escpos_command.specs.CommandTable.{spell}
+use Rattle.escpos_command.specs.declared.setting.SettingKind.TheVariants as sets
+use Rattle.escpos_command.specs.CommandTable.{spell, set_to}
 use Rattle.escpos_text.specs.declared.encoding.Encoding.{Encoding}
 use Rattle.escpos_text.specs.declared.encoding.TextFault.TheVariants.{NoCharacter}
 use Rattle.escpos_text.specs.declared.placing.Place.{Place}
@@ -102,7 +103,7 @@ plain-placed e b h =
     placed-other e b p.from ∙ ap (λ o. ok_or o (NoCharacter b)) (place-own e b here (reach-first e b here stands))
 
 pub no_table : (table byte : ℕ) → commands_for table (record { table = table; byte = byte }) ≡ kind.Char byte ∷ []
-no_table table byte = ap (λ t. cond t [] (kind.Table table ∷ []) ++ kind.Char byte ∷ []) (eq-eqb table table refl)
+no_table table byte = ap (λ t. cond t [] (set_to sets.Table table ∷ []) ++ kind.Char byte ∷ []) (eq-eqb table table refl)
 
 plain-written : (e : Encoding) (bs : List ℕ) → list_all (is_plain e.set) bs ≡ true → written e bs ≡ Ok (map (λ b. kind.Char b) bs)
 unfolding written

@@ -4,7 +4,8 @@ use Rattle.std.proofs.lemmas.Grind.{flat_map-append}
 use Rattle.std.proofs.lemmas.List.{append-nil}
 use Rattle.escpos_command.specs.declared.command.Command.{Command}
 use Rattle.escpos_command.specs.declared.command.Command.TheVariants as kind
-use Rattle.escpos_command.specs.CommandTable.{row, spell}
+use Rattle.escpos_command.specs.declared.setting.SettingKind.TheVariants as sets
+use Rattle.escpos_command.specs.CommandTable.{row, spell, set_to}
 use Rattle.escpos_text.specs.declared.encoding.Encoding.{Encoding}
 use Rattle.escpos_text.specs.declared.encoding.TextFault.{TextFault}
 use Rattle.escpos_text.specs.declared.encoding.TextFault.TheVariants.{Control, NoCharacter, Memory}
@@ -54,7 +55,7 @@ table_after-append (x ∷ xs) more table = table_after-append xs more (after_com
 
 pub table_after-place : (table : ℕ) (place : Place) → table_after table (commands_for table place) ≡ place.table
 table_after-place table place = go (place.table == table) refl where
-  go : (t : Bool) → (place.table == table) ≡ t → table_after table (cond t [] (kind.Table place.table ∷ []) ++ kind.Char place.byte ∷ []) ≡ place.table
+  go : (t : Bool) → (place.table == table) ≡ t → table_after table (cond t [] (set_to sets.Table place.table ∷ []) ++ kind.Char place.byte ∷ []) ≡ place.table
   go true e = sym (eqb-true place.table table e)
   go false e = refl
 

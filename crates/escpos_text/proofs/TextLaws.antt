@@ -6,7 +6,9 @@ use Rattle.std.proofs.lemmas.Option.{none-some}
 use Rattle.std.proofs.lemmas.List.{append-nil}
 use Rattle.escpos_command.specs.declared.command.Command.{Command}
 use Rattle.escpos_command.specs.declared.command.Command.TheVariants as kind
-use Rattle.escpos_command.specs.CommandTable.{IsCommand, AreCommands}
+use Rattle.escpos_command.specs.SettingTable.{table}
+use Rattle.escpos_command.specs.declared.setting.SettingKind.TheVariants as sets
+use Rattle.escpos_command.specs.CommandTable.{IsCommand, AreCommands, set_to}
 use Rattle.escpos_text.specs.declared.encoding.Encoding.{Encoding}
 use Rattle.escpos_text.specs.declared.encoding.TextFault.{TextFault}
 use Rattle.escpos_text.specs.declared.encoding.TextFault.TheVariants.{Control, NoCharacter}
@@ -55,7 +57,7 @@ byte-to e c place s = (byte_for-reads e.set place.table s.shown place.byte s.rea
 
 one-cell : (e : Encoding) (c : ℕ) (place : Place) → (s : Stands e c place) → (rest : List Command) → read_back e.set e.table (commands_for e.table place ++ rest) ≡ Some s.shown ∷ read_back e.set place.table rest
 one-cell e c place s rest = go (place.table == e.table) refl where
-  go : (t : Bool) → (place.table == e.table) ≡ t → read_back e.set e.table ((cond t [] (kind.Table place.table ∷ []) ++ kind.Char place.byte ∷ []) ++ rest) ≡ Some s.shown ∷ read_back e.set place.table rest
+  go : (t : Bool) → (place.table == e.table) ≡ t → read_back e.set e.table ((cond t [] (set_to sets.Table place.table ∷ []) ++ kind.Char place.byte ∷ []) ++ rest) ≡ Some s.shown ∷ read_back e.set place.table rest
   go true is =
       let same : e.table ≡ place.table = sym (eqb-true place.table e.table is) in
       ap (λ t. reads e.set t place.byte ∷ read_back e.set t rest) same ∙ ap (λ cell. cell ∷ read_back e.set place.table rest) (cell-same e c place s)
@@ -63,7 +65,7 @@ one-cell e c place s rest = go (place.table == e.table) refl where
 
 of_text : (e : Encoding) (c : ℕ) (place : Place) → Stands e c place → (rest : List Command) → AreOfText rest → AreOfText (commands_for e.table place ++ rest)
 of_text e c place s rest are = go (place.table == e.table) where
-  go : (t : Bool) → AreOfText ((cond t [] (kind.Table place.table ∷ []) ++ kind.Char place.byte ∷ []) ++ rest)
+  go : (t : Bool) → AreOfText ((cond t [] (set_to sets.Table place.table ∷ []) ++ kind.Char place.byte ∷ []) ++ rest)
   go true = (byte-from e c place s, byte-to e c place s, are)
   go false = (tt, (byte-from e c place s, byte-to e c place s, are))
 
@@ -118,7 +120,7 @@ same_text e (c ∷ cs) commands h none other =
 -- Lean.
 lean_more : (e : Encoding) (c : ℕ) (place : Place) → Stands e c place → (rest : List Command) → IsLean (record e { table = place.table }) rest → IsLean e (commands_for e.table place ++ rest)
 lean_more e c place s rest lean = go (place.table == e.table) refl where
-  go : (t : Bool) → (place.table == e.table) ≡ t → IsLean e ((cond t [] (kind.Table place.table ∷ []) ++ kind.Char place.byte ∷ []) ++ rest)
+  go : (t : Bool) → (place.table == e.table) ≡ t → IsLean e ((cond t [] (set_to sets.Table place.table ∷ []) ++ kind.Char place.byte ∷ []) ++ rest)
   go true is = subst (λ t. IsLean (record e { table = t }) rest) (eqb-true place.table e.table is) lean
   go false is =
       elim (s.reached.reason) [
@@ -134,11 +136,12 @@ is_lean e (c ∷ cs) commands h =
 
 -- In range.
 in_range_more : (e : Encoding) (c : ℕ) (place : Place) → Stands e c place → All (λ n. n < 256) e.choice → (rest : List Command) → AreCommands rest → AreCommands (commands_for e.table place ++ rest)
+unfolding table
 in_range_more e c place s bytes rest are = go (place.table == e.table) refl where
   character : IsCommand (kind.Char place.byte)
   character = and_from _ _ (le-leb 0x20 place.byte (byte-from e c place s)) (lt-ltb place.byte 256 (byte-to e c place s))
 
-  go : (t : Bool) → (place.table == e.table) ≡ t → AreCommands ((cond t [] (kind.Table place.table ∷ []) ++ kind.Char place.byte ∷ []) ++ rest)
+  go : (t : Bool) → (place.table == e.table) ≡ t → AreCommands ((cond t [] (set_to sets.Table place.table ∷ []) ++ kind.Char place.byte ∷ []) ++ rest)
   go true is = (character, are)
   go false is =
       elim (s.reached.reason) [

@@ -3,8 +3,10 @@ use Rattle.std.proofs.Common.{◌≡◌, [], ◌∷◌, refl, Some, None, Ok, Er
 use Rattle.std.specs.Prelude.{codes, map}
 use Rattle.unicode_normalization.specs.Forms.{nfc}
 use Rattle.unicode_normalization.proofs.Computing.{unicode_normalization}
-use Rattle.escpos_command.specs.declared.command.Command.TheVariants.{Char, Table, CharacterSet}
-use Rattle.escpos_command.specs.CommandTable.{spell}
+use Rattle.escpos_command.specs.declared.command.Command.TheVariants.{Char}
+use Rattle.escpos_command.specs.SettingTable.{table}
+use Rattle.escpos_command.specs.declared.setting.SettingKind.TheVariants as sets
+use Rattle.escpos_command.specs.CommandTable.{spell, set_to}
 use Rattle.escpos_text.specs.declared.encoding.Encoding.{Encoding}
 use Rattle.escpos_text.specs.declared.encoding.TextFault.TheVariants.{Control, NoCharacter}
 use Rattle.escpos_text.specs.CodeTables.{code_tables, characters_of}
@@ -65,7 +67,7 @@ unfolding fresh byte_for reads reads_low reads_high exchanged_bytes characters_i
 cafe = refl
 
 -- The euro sign is in PC858, which stays in force: its é is that of PC437, and its ß, too.
-euro : written fresh (codes "5 €é") ≡ Ok (Char 0x35 ∷ Char 0x20 ∷ Table 19 ∷ Char 0xD5 ∷ Char 0x82 ∷ [])
+euro : written fresh (codes "5 €é") ≡ Ok (Char 0x35 ∷ Char 0x20 ∷ set_to sets.Table 19 ∷ Char 0xD5 ∷ Char 0x82 ∷ [])
 unfolding fresh byte_for reads reads_low reads_high exchanged_bytes characters_in character_sets characters_of code_tables place_among place_for placed written
 euro = refl
 
@@ -75,7 +77,7 @@ unfolding unicode_normalization
 composed = refl
 
 -- Polish by PC852, and then Russian by PC866.
-several : written fresh (codes "Łé5П") ≡ Ok (Table 18 ∷ Char 0x9D ∷ Char 0x82 ∷ Char 0x35 ∷ Table 17 ∷ Char 0x8F ∷ [])
+several : written fresh (codes "Łé5П") ≡ Ok (set_to sets.Table 18 ∷ Char 0x9D ∷ Char 0x82 ∷ Char 0x35 ∷ set_to sets.Table 17 ∷ Char 0x8F ∷ [])
 unfolding fresh byte_for reads reads_low reads_high exchanged_bytes characters_in character_sets characters_of code_tables place_among place_for placed written
 several = refl
 
@@ -112,18 +114,19 @@ control = refl
 
 -- ## The bytes of a text
 
-spelled : spell (Table 18 ∷ Char 0x9D ∷ Char 0x35 ∷ []) ≡ 0x1B ∷ 0x74 ∷ 0x12 ∷ 0x9D ∷ 0x35 ∷ []
+spelled : spell (set_to sets.Table 18 ∷ Char 0x9D ∷ Char 0x35 ∷ []) ≡ 0x1B ∷ 0x74 ∷ 0x12 ∷ 0x9D ∷ 0x35 ∷ []
+unfolding table
 spelled = refl
 
 -- A table of the number of ESC is read as a number.
-read_again : text_commands (0x1B ∷ 0x74 ∷ 0x1B ∷ 0x9D ∷ 0x35 ∷ []) ≡ Table 27 ∷ Char 0x9D ∷ Char 0x35 ∷ []
+read_again : text_commands (0x1B ∷ 0x74 ∷ 0x1B ∷ 0x9D ∷ 0x35 ∷ []) ≡ set_to sets.Table 27 ∷ Char 0x9D ∷ Char 0x35 ∷ []
 unfolding text_commands
 read_again = refl
 
 -- A set counts, too, where commands are read back.
-sets_read_back : read_back 0 0 (Char 0x23 ∷ CharacterSet 3 ∷ Char 0x23 ∷ Table 19 ∷ Char 0xD5 ∷ []) ≡ Some 0x23 ∷ Some 0xA3 ∷ Some 0x20AC ∷ []
+sets_read_back : read_back 0 0 (Char 0x23 ∷ set_to sets.CharacterSet 3 ∷ Char 0x23 ∷ set_to sets.Table 19 ∷ Char 0xD5 ∷ []) ≡ Some 0x23 ∷ Some 0xA3 ∷ Some 0x20AC ∷ []
 unfolding reads reads_low reads_high exchanged_bytes characters_in character_sets characters_of code_tables
 sets_read_back = refl
 
-last_table : table_after 0 (Char 0x23 ∷ Table 18 ∷ Char 0x9D ∷ Table 17 ∷ Char 0x8F ∷ []) ≡ 17
+last_table : table_after 0 (Char 0x23 ∷ set_to sets.Table 18 ∷ Char 0x9D ∷ set_to sets.Table 17 ∷ Char 0x8F ∷ []) ≡ 17
 last_table = refl

@@ -2,6 +2,8 @@
 use Rattle.std.specs.Prelude.{◌≡◌, ◌⊎◌, ℕ, ◌<◌, List, [], ◌∷◌, ◌++◌, length, slice_index, All, Option, Some, None, Result, Ok}
 use Rattle.escpos_command.specs.declared.command.Command.{Command}
 use Rattle.escpos_command.specs.declared.command.Command.TheVariants as kind
+use Rattle.escpos_command.specs.SettingTable.{value}
+use Rattle.escpos_command.specs.declared.setting.SettingKind.TheVariants as sets
 use Rattle.escpos_text.specs.declared.encoding.Encoding.{Encoding}
 use Rattle.escpos_text.specs.declared.encoding.TextFault.{TextFault}
 use Rattle.escpos_text.specs.Reading.{reads, byte_for}
@@ -11,8 +13,8 @@ use Rattle.escpos_text.specs.Writing.{in_reach, shown_for, ◌>>=◌, written, t
 abbrev pub read_back : ℕ → ℕ → List Command → List (Option ℕ)
 read_back set table [] = []
 read_back set table (kind.Char b ∷ commands) = reads set table b ∷ read_back set table commands
-read_back set table (kind.Table n ∷ commands) = read_back set n commands
-read_back set table (kind.CharacterSet n ∷ commands) = read_back n table commands
+read_back set table (kind.Set (sets.Table, p) ∷ commands) = read_back set (value p) commands
+read_back set table (kind.Set (sets.CharacterSet, p) ∷ commands) = read_back (value p) table commands
 read_back set table (_ ∷ commands) = read_back set table commands
 
 -- None of these tables has a character.
@@ -51,7 +53,7 @@ IsWanted encoding number (_ ∷ commands) = ⊥
 
 abbrev pub IsLean : Encoding → List Command → Type 0
 IsLean encoding [] = Unit {0}
-IsLean encoding (kind.Table n ∷ commands) = IsWanted encoding n commands × IsLean (record encoding { table = n }) commands
+IsLean encoding (kind.Set (sets.Table, p) ∷ commands) = IsWanted encoding (value p) commands × IsLean (record encoding { table = value p }) commands
 IsLean encoding (_ ∷ commands) = IsLean encoding commands
 
 -- Nothing that may be shown for a character is in a table in reach.

@@ -2,7 +2,9 @@
 use Rattle.std.specs.Prelude.{◌≡◌, ℕ, ◌==◌, nat_lt, List, [], ◌∷◌, ◌++◌, Option, Some, None, option_map, option_to_list, ok_or, Result, Ok, Err, fold, if◌then◌else◌}
 use Rattle.escpos_command.specs.declared.command.Command.{Command}
 use Rattle.escpos_command.specs.declared.command.Command.TheVariants as kind
-use Rattle.escpos_command.specs.CommandTable.{spell}
+use Rattle.escpos_command.specs.SettingTable.{value}
+use Rattle.escpos_command.specs.declared.setting.SettingKind.TheVariants as sets
+use Rattle.escpos_command.specs.CommandTable.{spell, set_to}
 use Rattle.escpos_text.specs.declared.encoding.Encoding.{Encoding}
 use Rattle.escpos_text.specs.declared.encoding.TextFault.{TextFault}
 use Rattle.escpos_text.specs.declared.encoding.TextFault.TheVariants.{Control, NoCharacter, Memory}
@@ -44,7 +46,7 @@ placed encoding c = if nat_lt c 0x20 then Err (Control c) else ok_or (place_for 
 
 -- The byte, with ESC t before it if its table isn't in force.
 abbrev pub commands_for : ℕ → Place → List Command
-commands_for table place = (if place.table == table then [] else kind.Table place.table ∷ []) ++ kind.Char place.byte ∷ []
+commands_for table place = (if place.table == table then [] else set_to sets.Table place.table ∷ []) ++ kind.Char place.byte ∷ []
 
 -- The commands of a text, or why its first bad character is refused.
 infixl 10 ◌>>=◌
@@ -61,7 +63,7 @@ written encoding (c ∷ cs) = do
 
 -- The code table in force after commands.
 abbrev pub after_command : ℕ → Command → ℕ
-after_command table (kind.Table n) = n
+after_command table (kind.Set (sets.Table, p)) = value p
 after_command table _ = table
 
 abbrev pub table_after : ℕ → List Command → ℕ

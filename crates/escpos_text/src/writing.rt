@@ -176,6 +176,7 @@ fn write_placed(
 }
 
 // Appends the byte of a place, with ESC t before it if its table isn't in force.
+#[tactic(auto, unfolding(escpos_command::specs::SettingTable::table))]
 fn put_place(table: u8, place: Place, out: &mut Vec<u8>) -> Result<(), AllocError>
     ensures ok { OnOk result (out.new.items ≡ out.old.items ++ spell (commands_for table place)) }
     ensures err { OnErr result (out.new.items ≡ out.old.items) }

@@ -4,9 +4,11 @@ use Rattle.std.specs.Prelude.{◌==◌, if◌then◌else◌}
 use Rattle.std.proofs.lemmas.Bool.Decides.{nat_tests}
 use Rattle.std.specs.List.{AllByRecursion, AllPass}
 use Rattle.escpos_command.specs.declared.command.Command.{Command}
-use Rattle.escpos_command.specs.declared.command.Command.TheVariants.{Align, Char, Emphasis, LineFeed}
+use Rattle.escpos_command.specs.declared.command.Command.TheVariants.{Char, LineFeed}
+use Rattle.escpos_command.specs.SettingTable.{table}
+use Rattle.escpos_command.specs.declared.setting.SettingKind.TheVariants as sets
 use Rattle.escpos_command.specs.declared.bytes.TheConstants.{DLE}
-use Rattle.escpos_command.specs.CommandTable.{spell}
+use Rattle.escpos_command.specs.CommandTable.{spell, set_to}
 use Rattle.escpos_command.specs.Settings.{stored}
 use Rattle.escpos_command.specs.Text.{ends_later, text, text_after}
 use Rattle.escpos_command.proofs.Lines.{same_text}
@@ -51,10 +53,10 @@ free_chars (b ∷ bs) tail all = (record { allowed = refl; anywhere = refl }, fr
 free_line : (bs : List ℕ) → AllByRecursion IsFree (copy_line bs)
 free_line bs =
     let free : (c : Command) → is_forbidden c ≡ false → needs_empty_line c ≡ false → IsFree c = λ c allowed anywhere. record { allowed = allowed; anywhere = anywhere } in (
-      free (Align 1) refl refl,
+      free (set_to sets.Align 1) refl refl,
       (
-        free (Emphasis 1) refl refl,
-        free_chars bs (LineFeed ∷ Emphasis 0 ∷ Align 0 ∷ []) (free LineFeed refl refl, (free (Emphasis 0) refl refl, (free (Align 0) refl refl, tt))),
+        free (set_to sets.Emphasis 1) refl refl,
+        free_chars bs (LineFeed ∷ set_to sets.Emphasis 0 ∷ set_to sets.Align 0 ∷ []) (free LineFeed refl refl, (free (set_to sets.Emphasis 0) refl refl, (free (set_to sets.Align 0) refl refl, tt))),
       ),
     )
 
@@ -79,16 +81,16 @@ text_after_chars before (b ∷ bs) rest e =
 
 text_after_line : (bs : List ℕ) (rest : List Command) → text (copy_line bs ++ rest) ≡ text rest
 text_after_line bs rest =
-    let tail : List Command = LineFeed ∷ Emphasis 0 ∷ Align 0 ∷ [] in
+    let tail : List Command = LineFeed ∷ set_to sets.Emphasis 0 ∷ set_to sets.Align 0 ∷ [] in
     let body : List Command = (map Char bs ++ tail) ++ rest in
-    let joined : body ≡ map Char bs ++ (LineFeed ∷ Emphasis 0 ∷ Align 0 ∷ rest) = append_assoc (map Char bs) tail rest in
-    let begun : List Command = Align 1 ∷ Emphasis 1 ∷ [] in
-    let ended : List Command = Emphasis 0 ∷ Align 0 ∷ [] in
-    nothing_either (ends_later (Align 1 ∷ []) (Emphasis 1 ∷ body)) (text_after (Align 1 ∷ []) (Emphasis 1 ∷ body))
+    let joined : body ≡ map Char bs ++ (LineFeed ∷ set_to sets.Emphasis 0 ∷ set_to sets.Align 0 ∷ rest) = append_assoc (map Char bs) tail rest in
+    let begun : List Command = set_to sets.Align 1 ∷ set_to sets.Emphasis 1 ∷ [] in
+    let ended : List Command = set_to sets.Emphasis 0 ∷ set_to sets.Align 0 ∷ [] in
+    nothing_either (ends_later (set_to sets.Align 1 ∷ []) (set_to sets.Emphasis 1 ∷ body)) (text_after (set_to sets.Align 1 ∷ []) (set_to sets.Emphasis 1 ∷ body))
     ∙ nothing_either (ends_later begun body) (text_after begun body)
     ∙ ap (text_after begun) joined
-    ∙ text_after_chars begun bs (Emphasis 0 ∷ Align 0 ∷ rest) refl
-    ∙ nothing_either (ends_later (Emphasis 0 ∷ []) (Align 0 ∷ rest)) (text_after (Emphasis 0 ∷ []) (Align 0 ∷ rest))
+    ∙ text_after_chars begun bs (set_to sets.Emphasis 0 ∷ set_to sets.Align 0 ∷ rest) refl
+    ∙ nothing_either (ends_later (set_to sets.Emphasis 0 ∷ []) (set_to sets.Align 0 ∷ rest)) (text_after (set_to sets.Emphasis 0 ∷ []) (set_to sets.Align 0 ∷ rest))
     ∙ nothing_either (ends_later ended rest) (text_after ended rest)
     ∙ same_text ended [] rest refl
 
@@ -103,19 +105,21 @@ not_dle : (b : ℕ) → IsTrue (is_copy_character b) → (b == DLE) ≡ false
 not_dle b is = grind (arith, nat_tests)
 
 chars_hold_none : (bs : List ℕ) (cs : List Command) → AllPass is_copy_character bs
-    → holds (spell ((map Char bs ++ LineFeed ∷ Emphasis 0 ∷ Align 0 ∷ []) ++ cs)) ≡ holds (spell cs)
+    → holds (spell ((map Char bs ++ LineFeed ∷ set_to sets.Emphasis 0 ∷ set_to sets.Align 0 ∷ []) ++ cs)) ≡ holds (spell cs)
+unfolding table
 chars_hold_none [] cs plain =
     let rest = spell cs in
     skip 0x0A (0x1B ∷ 0x45 ∷ 0 ∷ 0x1B ∷ 0x61 ∷ 0 ∷ rest) refl ∙ skip 0x1B (0x45 ∷ 0 ∷ 0x1B ∷ 0x61 ∷ 0 ∷ rest) refl
     ∙ skip 0x45 (0 ∷ 0x1B ∷ 0x61 ∷ 0 ∷ rest) refl ∙ skip 0 (0x1B ∷ 0x61 ∷ 0 ∷ rest) refl ∙ skip 0x1B (0x61 ∷ 0 ∷ rest) refl ∙ skip 0x61 (0 ∷ rest) refl
     ∙ skip 0 rest refl
 chars_hold_none (b ∷ bs) cs plain =
-    skip b (spell ((map Char bs ++ LineFeed ∷ Emphasis 0 ∷ Align 0 ∷ []) ++ cs)) (not_dle b (plain 0 0 (omega arith)))
+    skip b (spell ((map Char bs ++ LineFeed ∷ set_to sets.Emphasis 0 ∷ set_to sets.Align 0 ∷ []) ++ cs)) (not_dle b (plain 0 0 (omega arith)))
     ∙ chars_hold_none bs cs (λ k d h. plain (suc k) d (omega (arith, h)))
 
 line_holds_none : (bs : List ℕ) (cs : List Command) → AllPass is_copy_character bs → holds (spell (copy_line bs ++ cs)) ≡ holds (spell cs)
+unfolding table
 line_holds_none bs cs plain =
-    let rest = spell ((map Char bs ++ LineFeed ∷ Emphasis 0 ∷ Align 0 ∷ []) ++ cs) in
+    let rest = spell ((map Char bs ++ LineFeed ∷ set_to sets.Emphasis 0 ∷ set_to sets.Align 0 ∷ []) ++ cs) in
     skip 0x1B (0x61 ∷ 1 ∷ 0x1B ∷ 0x45 ∷ 1 ∷ rest) refl ∙ skip 0x61 (1 ∷ 0x1B ∷ 0x45 ∷ 1 ∷ rest) refl ∙ skip 1 (0x1B ∷ 0x45 ∷ 1 ∷ rest) refl
     ∙ skip 0x1B (0x45 ∷ 1 ∷ rest) refl ∙ skip 0x45 (1 ∷ rest) refl ∙ skip 1 rest refl ∙ chars_hold_none bs cs plain
 

@@ -3,6 +3,8 @@ use Rattle.std.specs.Prelude.{ℕ, Bool, ◌&&◌, ◌<◌, ◌≤◌, nat_le, O
 use Rattle.std.specs.List.{AllPass}
 use Rattle.escpos_command.specs.declared.command.Command.{Command}
 use Rattle.escpos_command.specs.declared.command.Command.TheVariants as kind
+use Rattle.escpos_command.specs.CommandTable.{set_to}
+use Rattle.escpos_command.specs.declared.setting.SettingKind.TheVariants as sets
 use Rattle.escpos_till.specs.declared.copy.TheConstants.{COPY_CHARACTERS}
 
 -- A character that such a line may have, 20 to 7E hexadecimal.
@@ -18,7 +20,7 @@ pub record IsCopyText (text : List ℕ) : Type 0 where
 -- A line with this text, centred and emphasised; then emphasis is off and lines are at the left, as after Init.
 abbrev pub copy_line : List ℕ → List Command
 copy_line text =
-    kind.Align 1 ∷ kind.Emphasis 1 ∷ (map kind.Char text ++ kind.LineFeed ∷ kind.Emphasis 0 ∷ kind.Align 0 ∷ [])
+    set_to sets.Align 1 ∷ set_to sets.Emphasis 1 ∷ (map kind.Char text ++ kind.LineFeed ∷ set_to sets.Emphasis 0 ∷ set_to sets.Align 0 ∷ [])
 
 -- What is sent of a receipt that was tried so often: if it was, and there is such a text, the line comes before it.
 abbrev pub sent_of : Option (List ℕ) → ℕ → List Command → List Command
