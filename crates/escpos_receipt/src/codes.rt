@@ -4,6 +4,7 @@
 
 ghost use Rattle.std.specs.Prelude.{◌≡◌, ◌↔◌, List, [], ◌++◌, IsTrue, false, MatchOption, length, ◌≤◌, flat_map};
 ghost use Rattle.escpos_command.specs.declared.command.Command.{Command};
+ghost use Rattle.escpos_command.specs.declared.command.Command.TheVariants.{Set};
 ghost use Rattle.escpos_barcode.specs.QrSizes.{qr_modules};
 ghost use Rattle.escpos_receipt.specs.CodeSteps.{code_settings_after, kept};
 ghost use Rattle.escpos_receipt.specs.EntryCommands.{commands_in};

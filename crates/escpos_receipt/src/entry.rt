@@ -8,6 +8,7 @@ ghost use Rattle.serde_json.specs.Find.{as_str};
 ghost use Rattle.serde_json.specs.View.{view};
 ghost use Rattle.escpos_receipt.specs.EntryCommands.{commands_meant, force_after, force_after_member, line_step, with_commands};
 ghost use Rattle.escpos_receipt.specs.Entries.{command_of, commands_of, meaning, member_of, only_member, text_in};
+ghost use Rattle.escpos_command.specs.declared.command.Command.TheVariants.{Set};
 
 use crate::in_force::InForce;
 use crate::json_names::{ALIGNMENTS, CUTS, FONTS, HRI_POSITIONS};
@@ -259,6 +260,7 @@ fn command_of(alloc: Global, member: Member, value: &Value) -> Result<Command, E
 }
 
 // The same, for a member whose command has no content.
+#[tactic(auto, unfolding(escpos_command::specs::SettingTable::table))]
 fn short_command_of(member: Member, value: &Value) -> Option<Command>
     requires no_bars { member ≢ Member.Bars }
     requires no_raster { member ≢ Member.Raster }

@@ -452,6 +452,7 @@ fn add_text(commands: &mut Vec<Command>, text: &[u8], more: usize) -> Result<(),
 }
 
 // The first of the commands that these bytes spell, and the bytes of the others.
+#[tactic(auto, unfolding(escpos_command::specs::SettingTable::table))]
 fn first_of_text(text: &[u8]) -> Option<(Command, &[u8])>
     requires { IsTextBytes text.now }
     ensures first { IfSome result (λ first. (lines_commands text.now ≡ first.0 ∷ lines_commands first.1.now) × IsTextBytes first.1.now × (length first.1.now < length text.now)) }

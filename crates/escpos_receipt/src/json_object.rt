@@ -29,6 +29,7 @@ pub fn size_in(value: &Value) -> Option<u8>
 }
 
 /// A line spacing: 0 to 255 motion units, or the default.
+#[tactic(auto, unfolding(escpos_command::specs::SettingTable::table))]
 pub fn spacing_in(value: &Value) -> Option<Command>
     ensures { result ≡ spacing_in (view value.now) }
 {
@@ -36,10 +37,7 @@ pub fn spacing_in(value: &Value) -> Option<Command>
         if name != "default" {
             return None;
         }
-        return Some(Command::Set(Setting::new(
-            SettingKind::DefaultSpacing,
-            None,
-        )?));
+        return Some(Command::Set(Setting::new(SettingKind::DefaultSpacing, None)?));
     }
     Command::set(SettingKind::LineSpacing, byte_in(value, 0, 255)?)
 }
