@@ -128,6 +128,7 @@ pub(crate) fn with_copy(
 }
 
 // Adds the line.
+#[tactic(auto, unfolding(escpos_command::specs::SettingTable::table))]
 fn push_copy_line(commands: &mut Vec<Command>, text: &CopyText<'_>) -> Result<(), AllocError>
     ensures { OnOk result (commands.new.items ≡ commands.old.items ++ copy_line text.now) }
 {
