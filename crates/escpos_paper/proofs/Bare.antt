@@ -11,15 +11,13 @@ use Rattle.escpos_command.specs.declared.setting.SettingKind.TheVariants as sets
 use Rattle.escpos_command.specs.CommandTable.{IsCommand, AreCommands}
 use Rattle.escpos_command.specs.Text.{is_some}
 use Rattle.std.specs.Prelude.{Option, Some, None}
-use Rattle.escpos_paper.specs.declared.cell.Cell.{Cell}
-use Rattle.escpos_paper.specs.declared.item.Item.{Item}
-use Rattle.escpos_paper.specs.declared.style.LineStyle.{LineStyle}
+use Rattle.escpos_paper.specs.declared.style.Settings.{Settings}
 use Rattle.escpos_paper.specs.Styles.{is_empty}
 use Rattle.escpos_paper.specs.Cells.{cell}
 use Rattle.escpos_paper.specs.Rows.{fits}
 use Rattle.escpos_paper.specs.Page.{Sheet}
 use Rattle.escpos_paper.specs.Torn.{bare}
-use Rattle.escpos_paper.specs.Steps.{line_style_after, sheet_after}
+use Rattle.escpos_paper.specs.Steps.{settings_after, sheet_after}
 use Rattle.escpos_paper.proofs.Sheets.{sheet_of, sheet-snoc, sheet_step}
 use Rattle.escpos_paper.proofs.Applied.{one_more}
 
@@ -37,67 +35,50 @@ one_step w s t c e k h = record { commands = h.commands ++ c ∷ []; in_range = 
 
 -- The sheet without its items and without its line.
 abbrev blank : Sheet → Sheet
-blank s = record { line_dots = s.line_dots; items = []; style = s.style; bar_style = s.bar_style; line_style = s.line_style; qr_style = s.qr_style; stored = s.stored; line = [] }
+blank s = record s { items = []; line = [] }
 
 abbrev IsQuiet : ℕ → Sheet → Type 0
 IsQuiet w s = IsLeft w (bare s) × IsLeft w (blank s)
 
--- The same sheet with other items, settings of lines and line.
-abbrev with : Sheet → List Item → LineStyle → List Cell → Sheet
-with s items lines row = record { line_dots = s.line_dots; items = items; style = s.style; bar_style = s.bar_style; line_style = lines; qr_style = s.qr_style; stored = s.stored; line = row }
-
--- Settings that are the same at the beginning of a line and in it.
-abbrev anywhere : Bool → LineStyle → LineStyle
-anywhere b lines = record { alignment = cond b lines.alignment lines.alignment; upside_down = cond b lines.upside_down lines.upside_down; spacing = lines.spacing }
-
-same_lines : (b : Bool) (lines : LineStyle) → anywhere b lines ≡ lines
-same_lines true lines = refl
-same_lines false lines = refl
-
--- A command that ends the line, and changes no style.
-ends : (w : ℕ) (s : Sheet) (c : Command) → bare (sheet_after s c) ≡ with s [] (anywhere (is_empty s.line) s.line_style) [] → IsQuiet w s → IsQuiet w (sheet_after s c)
-ends w s c e q =
-    let all : bare (sheet_after s c) ≡ blank s = e ∙ ap (λ v. with s [] v []) (same_lines (is_empty s.line) s.line_style) in
-    (same_sheet w (blank s) (bare (sheet_after s c)) all q.1, same_sheet w (blank s) (blank (sheet_after s c)) (ap blank all) q.1)
+-- A command that ends the line, and changes no setting.
+ends : (w : ℕ) (s : Sheet) (c : Command) → bare (sheet_after s c) ≡ blank s → IsQuiet w s → IsQuiet w (sheet_after s c)
+ends w s c e q = (same_sheet w (blank s) (bare (sheet_after s c)) e q.1, same_sheet w (blank s) (blank (sheet_after s c)) (ap blank e) q.1)
 
 -- A character that fits goes on with the line, and one that doesn't begins a new one.
-puts : (w : ℕ) (s : Sheet) (b : ℕ) (fit : Bool) → fits s.line_dots (s.line ++ cell s.style b ∷ []) ≡ fit → IsQuiet w s → IsCommand (Char b) → IsQuiet w (sheet_after s (Char b))
-puts w s b true h q k =
-    let same = same_lines (is_empty s.line) s.line_style in
-    let printed : sheet_after (bare s) (Char b) ≡ with s [] (anywhere (is_empty s.line) s.line_style) (s.line ++ cell s.style b ∷ []) = cc h in
-    let now : bare (sheet_after s (Char b)) ≡ with s [] (anywhere (is_empty s.line) s.line_style) (s.line ++ cell s.style b ∷ []) = cc h in (
-      one_step w (bare s) (bare (sheet_after s (Char b))) (Char b) (now ∙ sym printed) k q.0,
-      same_sheet w (blank s) (blank (sheet_after s (Char b))) (ap (λ v. with s [] v []) same) q.1,
-    )
-puts w s b false h q k =
-    let same = same_lines (is_empty s.line) s.line_style in
-    let alone : sheet_after (blank s) (Char b) ≡ with s [] s.line_style (cell s.style b ∷ []) = refl in
-    let now : bare (sheet_after s (Char b)) ≡ with s [] (anywhere (is_empty s.line) s.line_style) (cell s.style b ∷ []) = cc h in (
-      one_step w (blank s) (bare (sheet_after s (Char b))) (Char b) (now ∙ ap (λ v. with s [] v (cell s.style b ∷ [])) same ∙ sym alone) k q.1,
-      same_sheet w (blank s) (blank (sheet_after s (Char b))) (ap (λ v. with s [] v []) same) q.1,
-    )
+puts : (w : ℕ) (s : Sheet) (b : ℕ) (fit : Bool) → fits s.line_dots (s.line ++ cell s.settings.text b ∷ []) ≡ fit → IsQuiet w s → IsCommand (Char b) → IsQuiet w (sheet_after s (Char b))
+puts w s b true h q k = (
+  one_step w (bare s) (bare (sheet_after s (Char b))) (Char b) (cc h) k q.0,
+  same_sheet w (blank s) (blank (sheet_after s (Char b))) refl q.1,
+)
+puts w s b false h q k = (
+  one_step w (blank s) (bare (sheet_after s (Char b))) (Char b) (cc h) k q.1,
+  same_sheet w (blank s) (blank (sheet_after s (Char b))) refl q.1,
+)
+
+-- The sheet with other settings, without its items and without its line.
+abbrev with : Sheet → Settings → Sheet
+with s settings = record s { items = []; settings = settings; line = [] }
 
 -- What is set only at the beginning of a line counts where the line is empty.
 acts : (w : ℕ) (s : Sheet) (c : Command) (empty : Bool) → is_empty s.line ≡ empty
-    → blank (sheet_after s c) ≡ with s [] (line_style_after (is_empty s.line) s.line_style c) []
-    → sheet_after (blank s) c ≡ with s [] (line_style_after true s.line_style c) [] → line_style_after false s.line_style c ≡ s.line_style
+    → blank (sheet_after s c) ≡ with s (settings_after (is_empty s.line) s.settings c)
+    → sheet_after (blank s) c ≡ with s (settings_after true s.settings c) → settings_after false s.settings c ≡ s.settings
     → IsQuiet w s → IsCommand c → IsLeft w (blank (sheet_after s c))
 acts w s c true h now there kept q k =
-    one_step w (blank s) (blank (sheet_after s c)) c (now ∙ ap (λ v. with s [] (line_style_after v s.line_style c) []) h ∙ sym there) k q.1
+    one_step w (blank s) (blank (sheet_after s c)) c (now ∙ ap (λ v. with s (settings_after v s.settings c)) h ∙ sym there) k q.1
 acts w s c false h now there kept q k =
-    same_sheet w (blank s) (blank (sheet_after s c)) (now ∙ ap (λ v. with s [] (line_style_after v s.line_style c) []) h ∙ ap (λ v. with s [] v []) kept) q.1
+    same_sheet w (blank s) (blank (sheet_after s c)) (now ∙ ap (λ v. with s (settings_after v s.settings c)) h ∙ ap (with s) kept) q.1
 
 -- A QR code ends the line if data is stored; otherwise nothing happens.
 prints_or_not : (w : ℕ) (s : Sheet) (data_then : Option (List ℕ)) → s.stored ≡ data_then → IsQuiet w s → IsCommand QrPrint → IsQuiet w (sheet_after s QrPrint)
-prints_or_not w s (Some bytes) h q k = ends w s QrPrint (ap (λ v. with s [] (anywhere (is_empty s.line) s.line_style) (cond (is_some v) [] s.line)) h) q
+prints_or_not w s (Some bytes) h q k = ends w s QrPrint (ap (λ v. record s { items = []; line = cond (is_some v) [] s.line }) h) q
 prints_or_not w s None h q k = (
-  same_sheet w (bare s) (bare (sheet_after s QrPrint))
-      (ap (λ v. with s [] v (cond (is_some s.stored) [] s.line)) (same_lines (is_empty s.line) s.line_style) ∙ ap (λ v. with s [] s.line_style (cond (is_some v) [] s.line)) h) q.0,
-  same_sheet w (blank s) (blank (sheet_after s QrPrint)) (ap (λ v. with s [] v []) (same_lines (is_empty s.line) s.line_style)) q.1,
+  same_sheet w (bare s) (bare (sheet_after s QrPrint)) (ap (λ v. record s { items = []; line = cond (is_some v) [] s.line }) h) q.0,
+  same_sheet w (blank s) (blank (sheet_after s QrPrint)) refl q.1,
 )
 
 quiet_step : (w : ℕ) (s : Sheet) (c : Command) → IsQuiet w s → IsCommand c → IsQuiet w (sheet_after s c)
-quiet_step w s (Char b) q k = puts w s b (fits s.line_dots (s.line ++ cell s.style b ∷ [])) refl q k
+quiet_step w s (Char b) q k = puts w s b (fits s.line_dots (s.line ++ cell s.settings.text b ∷ [])) refl q k
 quiet_step w s LineFeed q k = ends w s LineFeed refl q
 quiet_step w s (FeedLines n) q k = ends w s (FeedLines n) refl q
 quiet_step w s (FeedUnits n) q k = ends w s (FeedUnits n) refl q
@@ -105,18 +86,13 @@ quiet_step w s (Bars bars) q k = ends w s (Bars bars) refl q
 quiet_step w s (Raster raster) q k = ends w s (Raster raster) refl q
 quiet_step w s (Cut how) q k = ends w s (Cut how) refl q
 quiet_step w s QrPrint q k = prints_or_not w s s.stored refl q k
-quiet_step w s Init q k =
-    let same = ap (λ v. with (sheet_after s Init) [] v []) (same_lines (is_empty s.line) (line_style_after true s.line_style Init)) in
-    (one_step w (blank s) (bare (sheet_after s Init)) Init same k q.1, one_step w (blank s) (blank (sheet_after s Init)) Init same k q.1)
+quiet_step w s Init q k = (one_step w (blank s) (bare (sheet_after s Init)) Init refl k q.1, one_step w (blank s) (blank (sheet_after s Init)) Init refl k q.1)
 quiet_step w s (Set (sets.Align, p)) q k =
     (one_step w (bare s) (bare (sheet_after s (Set (sets.Align, p)))) (Set (sets.Align, p)) refl k q.0, acts w s (Set (sets.Align, p)) (is_empty s.line) refl refl refl refl q k)
 quiet_step w s (Set (sets.UpsideDown, p)) q k =
     (one_step w (bare s) (bare (sheet_after s (Set (sets.UpsideDown, p)))) (Set (sets.UpsideDown, p)) refl k q.0, acts w s (Set (sets.UpsideDown, p)) (is_empty s.line) refl refl refl refl q k)
-quiet_step w s c q k = (
-  one_step w (bare s) (bare (sheet_after s c)) c refl k q.0,
-  one_step w (blank s) (blank (sheet_after s c)) c
-      (ap (λ v. with (sheet_after s c) [] v []) (same_lines (is_empty s.line) (line_style_after true s.line_style c))) k q.1,
-)
+quiet_step w s c q k =
+    (one_step w (bare s) (bare (sheet_after s c)) c refl k q.0, one_step w (blank s) (blank (sheet_after s c)) c refl k q.1)
 
 quiet_from : (w : ℕ) (before cs : List Command) → IsQuiet w (sheet_of w [] before) → AreCommands cs → IsQuiet w (sheet_of w [] (before ++ cs))
 quiet_from w before [] q k = subst (λ v. IsQuiet w (sheet_of w [] v)) (sym (append-nil before)) q

@@ -1,16 +1,13 @@
 -- After an Init the commands before it have no effect.
-use Rattle.std.proofs.Common.{◌≡◌, ℕ, List, [], ◌∷◌, ◌++◌, refl, sym, ◌∙◌, ap, append_assoc, append-nil, Bool, true, false}
+use Rattle.std.proofs.Common.{◌≡◌, ℕ, List, [], ◌∷◌, ◌++◌, refl, sym, ◌∙◌, ap, append_assoc, append-nil}
 use Rattle.std.proofs.Math.Seq.{append_snoc}
 use Rattle.escpos_command.specs.declared.command.Command.{Command}
 use Rattle.escpos_command.specs.declared.command.Command.TheVariants.{Init}
-use Rattle.escpos_paper.specs.declared.style.LineStyle.{LineStyle}
-use Rattle.escpos_paper.specs.Styles.{is_empty, line_style, power_on_lines}
-use Rattle.escpos_paper.specs.Rows.{line}
 use Rattle.escpos_paper.specs.declared.item.Item.{Item}
 use Rattle.escpos_paper.specs.OverPlaces.{over_places}
 use Rattle.escpos_paper.specs.Printed.{prints, printed}
 use Rattle.escpos_paper.specs.Page.{Sheet}
-use Rattle.escpos_paper.specs.Steps.{line_style_after, sheet_after}
+use Rattle.escpos_paper.specs.Steps.{sheet_after}
 use Rattle.escpos_paper.proofs.Sheets.{sheet_of, sheet-snoc}
 
 -- Where two lists of commands leave the same sheet, they do so with the same further commands too.
@@ -24,13 +21,9 @@ same_after w kept also cs ds (c ∷ more) e =
     (sheet-snoc w kept cs c ∙ ap (λ s. sheet_after s c) e ∙ sym (sheet-snoc w also ds c))
     ∙ ap (sheet_of w also) (append_snoc ds c more)
 
-initial_lines : (is_line_empty : Bool) (lines : LineStyle) → line_style_after is_line_empty lines Init ≡ power_on_lines
-initial_lines true lines = refl
-initial_lines false lines = refl
-
 -- After an Init all that is left is what was printed before it.
 sheet_of_init : (w : ℕ) (cs : List Command) → sheet_of w [] (cs ++ Init ∷ []) ≡ sheet_of w (printed w cs) []
-sheet_of_init w cs = sheet-snoc w [] cs Init ∙ cc (initial_lines (is_empty (line w cs)) (line_style cs))
+sheet_of_init w cs = sheet-snoc w [] cs Init
 
 pub initialisation : (w : ℕ) (a b : List Command) → printed w (a ++ Init ∷ [] ++ b) ≡ printed w a ++ printed w b
 initialisation w a b = ap (λ (s : Sheet). s.items) (same_after w [] (printed w a) (a ++ Init ∷ []) [] b (sheet_of_init w a))

@@ -1,51 +1,35 @@
--- What one more command does to the styles and the cells of a list of commands.
-use Rattle.std.proofs.Common.{◌≡◌, ℕ, List, [], ◌∷◌, ◌++◌, refl, sym, ◌∙◌, ap, append_assoc, append-nil, Bool, true, false, cond, Option, None}
+-- What one more command does to the settings and the cells of a list of commands.
+use Rattle.std.proofs.Common.{◌≡◌, ℕ, List, [], ◌∷◌, ◌++◌, refl, sym, ◌∙◌, ap, append_assoc, append-nil, Bool, true, false, cond}
 use Rattle.std.specs.Prelude.{◌||◌, ◌&&◌, not, map}
 use Rattle.std.proofs.lemmas.List.{map-append}
 use Rattle.std.proofs.Math.Seq.{append_snoc}
 use Rattle.escpos_command.specs.declared.command.Command.{Command}
-use Rattle.escpos_command.specs.declared.parameter.choices.Alignment.TheVariants.{Left}
-use Rattle.escpos_command.specs.declared.parameter.choices.Correction.TheVariants.{L}
-use Rattle.escpos_command.specs.declared.parameter.choices.FontFace.TheVariants.{A}
-use Rattle.escpos_command.specs.declared.parameter.choices.HriPosition.TheVariants.{Nowhere}
 use Rattle.escpos_command.specs.Text.{text, text_after, ends_line, ends_later, characters}
 use Rattle.escpos_paper.specs.declared.cell.Cell.{Cell}
 use Rattle.escpos_paper.specs.declared.style.Style.{Style}
 use Rattle.escpos_paper.specs.OverPlaces.{over_places}
-use Rattle.escpos_paper.specs.Styles.{acts_at_line_start, is_empty, style, bar_style, line_style, qr_style, sets_qr_model, sets_qr_size, sets_correction, if_it_counts, commands_that_count, sets_alignment, sets_upside_down, sets_spacing, sets_table, sets_font, sets_width, sets_height, sets_bold, sets_underline, sets_strike, sets_reverse, sets_character_set, sets_bar_height, sets_module_width, sets_hri_place, sets_hri_font, set_after, style_after}
+use Rattle.escpos_paper.specs.Styles.{acts_at_line_start, is_empty, power_on, power_on_settings, settings, style, sets_qr_model, sets_qr_size, sets_correction, if_it_counts, commands_that_count, sets_alignment, sets_upside_down, sets_spacing, sets_table, sets_font, sets_width, sets_height, sets_bold, sets_underline, sets_strike, sets_reverse, sets_character_set, sets_bar_height, sets_module_width, sets_hri_place, sets_hri_font, set_after, style_after}
 use Rattle.escpos_command.specs.Settings.{setting}
 use Rattle.escpos_command.proofs.Lines.{ends_later-snoc}
 use Rattle.escpos_command.proofs.Settings.{or_false, or_true, setting-snoc}
 use Rattle.escpos_paper.specs.Cells.{cell, cell_at, cells}
-use Rattle.escpos_paper.specs.Steps.{set_at_start, bar_style_after, line_style_after, qr_style_after}
+use Rattle.escpos_paper.specs.Steps.{set_at_start, settings_after}
 
 -- ## Attributes
 
 pub style-snoc : (cs : List Command) (c : Command) → style (cs ++ c ∷ []) ≡ style_after (style cs) c
 style-snoc cs c =
     cc (
-      setting-snoc sets_table 0 cs c,
-      setting-snoc sets_font A cs c,
-      setting-snoc sets_width 1 cs c,
-      setting-snoc sets_height 1 cs c,
-      setting-snoc sets_bold false cs c,
-      setting-snoc sets_underline 0 cs c,
-      setting-snoc sets_strike false cs c,
-      setting-snoc sets_reverse false cs c,
-      setting-snoc sets_character_set 0 cs c,
+      setting-snoc sets_table power_on.table cs c,
+      setting-snoc sets_font power_on.font cs c,
+      setting-snoc sets_width power_on.width cs c,
+      setting-snoc sets_height power_on.height cs c,
+      setting-snoc sets_bold power_on.bold cs c,
+      setting-snoc sets_underline power_on.underline cs c,
+      setting-snoc sets_strike power_on.strike cs c,
+      setting-snoc sets_reverse power_on.reverse cs c,
+      setting-snoc sets_character_set power_on.character_set cs c,
     )
-
-pub bar_style-snoc : (cs : List Command) (c : Command) → bar_style (cs ++ c ∷ []) ≡ bar_style_after (bar_style cs) c
-bar_style-snoc cs c =
-    cc (
-      setting-snoc sets_bar_height 162 cs c,
-      setting-snoc sets_module_width 3 cs c,
-      setting-snoc sets_hri_place Nowhere cs c,
-      setting-snoc sets_hri_font A cs c,
-    )
-
-pub qr_style-snoc : (cs : List Command) (c : Command) → qr_style (cs ++ c ∷ []) ≡ qr_style_after (qr_style cs) c
-qr_style-snoc cs c = cc (setting-snoc sets_qr_model 2 cs c, setting-snoc sets_qr_size 3 cs c, setting-snoc sets_correction L cs c)
 
 -- ## Places
 
@@ -117,24 +101,35 @@ empty_map f (x ∷ xs) = refl
 pub empty_text : (cs : List Command) → is_empty (text cs) ≡ is_empty (cells cs)
 empty_text cs = ap is_empty (sym (bytes_of_cells cs)) ∙ empty_map (λ (x : Cell). x.byte) (cells cs)
 
--- ## Lines
+-- ## Settings of lines
 
 -- An attribute that is set only at the beginning of a line.
-at_start_by : {X : Type 0} (sets : Command → Option X) (start : X) (cs : List Command) (c : Command) (empty acts : Bool)
-    → setting sets start (commands_that_count cs ++ cond (acts && not empty) [] (c ∷ []))
-    ≡ cond empty (set_after sets start (setting sets start (commands_that_count cs)) c)
-    (cond acts (setting sets start (commands_that_count cs)) (set_after sets start (setting sets start (commands_that_count cs)) c))
-at_start_by sets start cs c true true = setting-snoc sets start (commands_that_count cs) c
-at_start_by sets start cs c true false = setting-snoc sets start (commands_that_count cs) c
-at_start_by sets start cs c false true = ap (setting sets start) (append-nil (commands_that_count cs))
-at_start_by sets start cs c false false = setting-snoc sets start (commands_that_count cs) c
+at_start_by : {X : Type 0} (sets : Command → Option X) (start : X) (cs : List Command) (c : Command) (ignored : Bool)
+    → setting sets start (commands_that_count cs ++ cond ignored [] (c ∷ []))
+    ≡ cond ignored (setting sets start (commands_that_count cs)) (set_after sets start (setting sets start (commands_that_count cs)) c)
+at_start_by sets start cs c true = ap (setting sets start) (append-nil (commands_that_count cs))
+at_start_by sets start cs c false = setting-snoc sets start (commands_that_count cs) c
 
 at_start-snoc : {X : Type 0} (sets : Command → Option X) (start : X) (cs : List Command) (c : Command)
     → setting sets start (commands_that_count (cs ++ c ∷ [])) ≡ set_at_start (is_empty (text cs)) sets start (setting sets start (commands_that_count cs)) c
 at_start-snoc sets start cs c =
     ap (setting sets start) (over-snoc if_it_counts if_it_counts [] cs c (λ b d following. refl))
-    ∙ at_start_by sets start cs c (is_empty (text cs)) (acts_at_line_start c)
+    ∙ at_start_by sets start cs c (acts_at_line_start c && not (is_empty (text cs)))
 
-pub line_style-snoc : (cs : List Command) (c : Command) → line_style (cs ++ c ∷ []) ≡ line_style_after (is_empty (text cs)) (line_style cs) c
-line_style-snoc cs c =
-    cc (at_start-snoc sets_alignment Left cs c, at_start-snoc sets_upside_down false cs c, setting-snoc sets_spacing None cs c)
+-- ## All settings
+
+pub settings-snoc : (cs : List Command) (c : Command) → settings (cs ++ c ∷ []) ≡ settings_after (is_empty (text cs)) (settings cs) c
+settings-snoc cs c =
+    cc (
+      style-snoc cs c,
+      setting-snoc sets_bar_height power_on_settings.bars.height cs c,
+      setting-snoc sets_module_width power_on_settings.bars.module_width cs c,
+      setting-snoc sets_hri_place power_on_settings.bars.place cs c,
+      setting-snoc sets_hri_font power_on_settings.bars.hri_font cs c,
+      at_start-snoc sets_alignment power_on_settings.lines.alignment cs c,
+      at_start-snoc sets_upside_down power_on_settings.lines.upside_down cs c,
+      setting-snoc sets_spacing power_on_settings.lines.spacing cs c,
+      setting-snoc sets_qr_model power_on_settings.codes.model cs c,
+      setting-snoc sets_qr_size power_on_settings.codes.size cs c,
+      setting-snoc sets_correction power_on_settings.codes.correction cs c,
+    )

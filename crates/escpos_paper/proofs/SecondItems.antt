@@ -1,5 +1,5 @@
 -- Commands of the second profile print items of the second profile.
-use Rattle.std.proofs.Common.{◌≡◌, ℕ, List, [], ◌∷◌, ◌++◌, length, sym, subst, refl, Bool, true, false, cond, IsTrue}
+use Rattle.std.proofs.Common.{◌≡◌, ℕ, List, [], ◌∷◌, ◌++◌, length, ap, sym, subst, refl, Bool, true, false, cond, IsTrue}
 use Rattle.std.specs.Prelude.{nat_lt, Option, None}
 use Rattle.std.specs.List.{AllByRecursion}
 use Rattle.escpos_command.specs.declared.command.Command.{Command}
@@ -12,6 +12,7 @@ use Rattle.escpos_command.specs.Settings.{stored}
 use Rattle.escpos_paper.specs.declared.cell.Cell.{Cell}
 use Rattle.escpos_paper.specs.declared.item.Item.{Item}
 use Rattle.escpos_paper.specs.declared.style.LineStyle.{LineStyle}
+use Rattle.escpos_paper.specs.declared.style.Settings.{Settings}
 use Rattle.escpos_paper.specs.declared.style.Style.{Style}
 use Rattle.escpos_paper.specs.Cells.{cell}
 use Rattle.escpos_paper.specs.ItemsText.{has_six_fields}
@@ -22,7 +23,7 @@ use Rattle.escpos_paper.specs.SecondPaper.{IsSecondCell, IsSecondItem}
 use Rattle.escpos_paper.specs.Steps.{line_after, line_style_after}
 use Rattle.escpos_paper.specs.Styles.{is_empty, line_style, style, style_after}
 use Rattle.escpos_paper.proofs.OneMore.{style-snoc}
-use Rattle.escpos_paper.proofs.Sheets.{line-snoc, line_style_step}
+use Rattle.escpos_paper.proofs.Sheets.{line-snoc, settings_step}
 
 abbrev AreSecond : List Item → Type 0
 AreSecond items = AllByRecursion IsSecondItem items
@@ -84,8 +85,7 @@ lines_stay e lines (kind.QrSize n) k h = absurd cc
 lines_stay e lines (kind.QrLevel n) k h = absurd cc
 lines_stay e lines (kind.QrStore bytes) k h = absurd cc
 lines_stay e lines kind.QrPrint k h = absurd cc
-lines_stay true lines kind.Init k h = record { upright = refl; default = refl }
-lines_stay false lines kind.Init k h = record { upright = refl; default = refl }
+lines_stay e lines kind.Init k h = record { upright = refl; default = refl }
 lines_stay true lines c k h = record { upright = h.upright; default = h.default }
 lines_stay false lines c k h = record { upright = h.upright; default = h.default }
 
@@ -93,7 +93,7 @@ one_further : (w : ℕ) (cs : List Command) (c : Command) → IsTrue (in_second_
 one_further w cs c k h = record {
   six = subst (λ s. IsTrue (has_six_fields s)) (sym (style-snoc cs c)) (style_stays (style cs) c k h.six);
   cells = subst AreCells (sym (line-snoc w cs c)) (line_stays w (style cs) (stored cs) (line w cs) c k h.six h.cells);
-  plain = subst IsPlain (sym (line_style_step w cs c)) (lines_stay (is_empty (line w cs)) (line_style cs) c k h.plain);
+  plain = subst IsPlain (sym (ap (λ (s : Settings). s.lines) (settings_step w cs c))) (lines_stay (is_empty (line w cs)) (line_style cs) c k h.plain);
 }
 
 -- ## What each prints

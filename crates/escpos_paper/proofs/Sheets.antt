@@ -6,15 +6,15 @@ use Rattle.escpos_command.specs.declared.command.Command.TheVariants.{Char, Line
 use Rattle.escpos_command.specs.Text.{text, ends_line, is_some, characters}
 use Rattle.escpos_paper.specs.declared.cell.Cell.{Cell}
 use Rattle.escpos_paper.specs.declared.item.Item.{Item}
-use Rattle.escpos_paper.specs.Styles.{is_empty, style, bar_style, line_style, qr_style}
+use Rattle.escpos_paper.specs.Styles.{is_empty, style, line_style, settings}
 use Rattle.escpos_command.specs.Settings.{last_or, stored}
 use Rattle.escpos_paper.specs.Cells.{cell, cells}
 use Rattle.escpos_paper.specs.Rows.{fits, is_at_width, cuts, rows, line}
 use Rattle.escpos_paper.specs.Printed.{prints, printed, row_and_feed}
 use Rattle.escpos_paper.specs.Page.{Sheet}
-use Rattle.escpos_paper.specs.Steps.{with_cell, line_style_after, line_after, step_prints, sheet_after}
+use Rattle.escpos_paper.specs.Steps.{with_cell, settings_after, line_after, step_prints, sheet_after}
 use Rattle.escpos_command.proofs.Settings.{stored-snoc}
-use Rattle.escpos_paper.proofs.OneMore.{style-snoc, bar_style-snoc, cells-snoc, empty_text, line_style-snoc, qr_style-snoc, over-snoc}
+use Rattle.escpos_paper.proofs.OneMore.{cells-snoc, empty_text, settings-snoc, over-snoc}
 use Rattle.escpos_paper.proofs.Filled.{filled}
 use Rattle.escpos_paper.proofs.Cuts.{last-snoc, begins_row, empty_last}
 use Rattle.escpos_paper.proofs.AllCuts.{rows_filled}
@@ -58,7 +58,7 @@ line-snoc w cs c = line_kept w cs c refl refl
 
 -- ## The paper
 
-pub prints_step : (w : ℕ) (cs : List Command) (c : Command) → prints w cs c ≡ step_prints w (style cs) (bar_style cs) (line_style cs) (qr_style cs) (stored cs) (line w cs) c
+pub prints_step : (w : ℕ) (cs : List Command) (c : Command) → prints w cs c ≡ step_prints w (settings cs) (stored cs) (line w cs) c
 prints_step w cs (Char b) =
     ap (λ found. cond (nat_lt (length (rows w cs)) (length found)) (row_and_feed (line_style cs) (line w cs)) [])
     (rows_filled w (cs ++ Char b ∷ []) ∙ ap (filled w) (cells-snoc cs (Char b)))
@@ -74,27 +74,27 @@ prints_step w cs (Cut how) = refl
 prints_step w cs QrPrint = refl
 prints_step w cs c = refl
 
-pub printed-snoc : (w : ℕ) (cs : List Command) (c : Command) → printed w (cs ++ c ∷ []) ≡ printed w cs ++ step_prints w (style cs) (bar_style cs) (line_style cs) (qr_style cs) (stored cs) (line w cs) c
+pub printed-snoc : (w : ℕ) (cs : List Command) (c : Command) → printed w (cs ++ c ∷ []) ≡ printed w cs ++ step_prints w (settings cs) (stored cs) (line w cs) c
 printed-snoc w cs c =
     over-snoc (λ before d following. prints w before d) (λ before d following. prints w before d) [] cs c (λ b d following. refl)
     ∙ ap (λ t. printed w cs ++ t) (prints_step w cs c)
 
 -- ## The sheet
 
-pub line_style_step : (w : ℕ) (cs : List Command) (c : Command) → line_style (cs ++ c ∷ []) ≡ line_style_after (is_empty (line w cs)) (line_style cs) c
-line_style_step w cs c = line_style-snoc cs c ∙ ap (λ b. line_style_after b (line_style cs) c) (sym (empty_line w cs))
+pub settings_step : (w : ℕ) (cs : List Command) (c : Command) → settings (cs ++ c ∷ []) ≡ settings_after (is_empty (line w cs)) (settings cs) c
+settings_step w cs c = settings-snoc cs c ∙ ap (λ b. settings_after b (settings cs) c) (sym (empty_line w cs))
 
 items_step : (w : ℕ) (kept : List Item) (cs : List Command) (c : Command)
-    → kept ++ printed w (cs ++ c ∷ []) ≡ (kept ++ printed w cs) ++ step_prints w (style cs) (bar_style cs) (line_style cs) (qr_style cs) (stored cs) (line w cs) c
+    → kept ++ printed w (cs ++ c ∷ []) ≡ (kept ++ printed w cs) ++ step_prints w (settings cs) (stored cs) (line w cs) c
 items_step w kept cs c =
-    ap (λ t. kept ++ t) (printed-snoc w cs c) ∙ sym (append_assoc kept (printed w cs) (step_prints w (style cs) (bar_style cs) (line_style cs) (qr_style cs) (stored cs) (line w cs) c))
+    ap (λ t. kept ++ t) (printed-snoc w cs c) ∙ sym (append_assoc kept (printed w cs) (step_prints w (settings cs) (stored cs) (line w cs) c))
 
 -- The sheet of a list of commands.
 abbrev pub sheet_of : ℕ → List Item → List Command → Sheet
-sheet_of w kept cs = record { line_dots = w; items = kept ++ printed w cs; style = style cs; bar_style = bar_style cs; line_style = line_style cs; qr_style = qr_style cs; stored = stored cs; line = line w cs }
+sheet_of w kept cs = record { line_dots = w; items = kept ++ printed w cs; settings = settings cs; stored = stored cs; line = line w cs }
 
 pub sheet-snoc : (w : ℕ) (kept : List Item) (cs : List Command) (c : Command) → sheet_of w kept (cs ++ c ∷ []) ≡ sheet_after (sheet_of w kept cs) c
-sheet-snoc w kept cs c = cc (items_step w kept cs c, style-snoc cs c, bar_style-snoc cs c, line_style_step w cs c, qr_style-snoc cs c, stored-snoc cs c, line-snoc w cs c)
+sheet-snoc w kept cs c = cc (items_step w kept cs c, settings_step w cs c, stored-snoc cs c, line-snoc w cs c)
 
 -- So a step from the sheet of some commands leads to the sheet of one more.
 pub sheet_step : (w : ℕ) (old new : Sheet) (kept : List Item) (cs : List Command) (c : Command)

@@ -1,33 +1,19 @@
 -- Characters that fit on the line print nothing, and LF prints them.
-use Rattle.std.proofs.Common.{◌≡◌, ℕ, List, [], ◌∷◌, ◌++◌, refl, sym, ap, subst, ◌∙◌, append-nil, Bool, true, false, cond, Option}
+use Rattle.std.proofs.Common.{◌≡◌, ℕ, List, [], ◌∷◌, ◌++◌, refl, sym, ap, subst, ◌∙◌, append-nil, true, cond, Option}
 use Rattle.std.specs.List.{AllByRecursion}
 use Rattle.std.proofs.Math.Seq.{append_snoc}
 use Rattle.escpos_command.specs.declared.command.Command.{Command}
 use Rattle.escpos_command.specs.declared.command.Command.TheVariants.{Char, LineFeed, Set}
 use Rattle.escpos_command.specs.declared.setting.SettingKind.TheVariants as sets
 use Rattle.escpos_paper.specs.declared.item.Item.TheVariants.{Feed}
-use Rattle.escpos_paper.specs.declared.style.LineStyle.{LineStyle}
-use Rattle.escpos_paper.specs.Styles.{is_empty, style, line_style}
+use Rattle.escpos_paper.specs.declared.style.Settings.{Settings}
+use Rattle.escpos_paper.specs.Styles.{style, line_style}
 use Rattle.escpos_paper.specs.Cells.{cell}
 use Rattle.escpos_paper.specs.Rows.{fits, line}
 use Rattle.escpos_paper.specs.Printed.{printed, row_of, row_and_feed}
-use Rattle.escpos_paper.specs.Steps.{line_style_after}
 use Rattle.escpos_paper.specs.Typed.{IsTyping, typed, GoesOnLine}
 use Rattle.escpos_paper.proofs.Fits.{prefix_fits}
-use Rattle.escpos_paper.proofs.Sheets.{line-snoc, printed-snoc, line_style_step}
-
--- Neither sets how lines are printed.
-char_keeps : (empty : Bool) (lines : LineStyle) (b : ℕ) → line_style_after empty lines (Char b) ≡ lines
-char_keeps true lines b = refl
-char_keeps false lines b = refl
-
-table_keeps : (empty : Bool) (lines : LineStyle) (p : Option ℕ) → line_style_after empty lines (Set (sets.Table, p)) ≡ lines
-table_keeps true lines p = refl
-table_keeps false lines p = refl
-
-feed_keeps : (empty : Bool) (lines : LineStyle) → line_style_after empty lines LineFeed ≡ lines
-feed_keeps true lines = refl
-feed_keeps false lines = refl
+use Rattle.escpos_paper.proofs.Sheets.{line-snoc, printed-snoc, settings_step}
 
 -- A character that fits.
 one_char : (w : ℕ) (before : List Command) (b : ℕ) → fits w (line w before ++ cell (style before) b ∷ []) ≡ true → GoesOnLine w before (Char b ∷ [])
@@ -35,14 +21,14 @@ one_char w before b h = record {
   prints_nothing =
       printed-snoc w before (Char b) ∙ ap (λ v. printed w before ++ cond v [] (row_and_feed (line_style before) (line w before))) h ∙ append-nil (printed w before);
   stands = line-snoc w before (Char b) ∙ ap (λ v. cond v (line w before ++ cell (style before) b ∷ []) (cell (style before) b ∷ [])) h;
-  same_lines = line_style_step w before (Char b) ∙ char_keeps (is_empty (line w before)) (line_style before) b;
+  same_lines = ap (λ (s : Settings). s.lines) (settings_step w before (Char b));
 }
 
 one_table : (w : ℕ) (before : List Command) (p : Option ℕ) → GoesOnLine w before (Set (sets.Table, p) ∷ [])
 one_table w before p = record {
   prints_nothing = printed-snoc w before (Set (sets.Table, p)) ∙ append-nil (printed w before);
   stands = line-snoc w before (Set (sets.Table, p)) ∙ sym (append-nil (line w before));
-  same_lines = line_style_step w before (Set (sets.Table, p)) ∙ table_keeps (is_empty (line w before)) (line_style before) p;
+  same_lines = ap (λ (s : Settings). s.lines) (settings_step w before (Set (sets.Table, p)));
 }
 
 -- Any number of them.
@@ -87,4 +73,4 @@ pub feed_empties : (w : ℕ) (cs : List Command) → line w (cs ++ LineFeed ∷ 
 feed_empties w cs = line-snoc w cs LineFeed
 
 pub feed_same_lines : (cs : List Command) → line_style (cs ++ LineFeed ∷ []) ≡ line_style cs
-feed_same_lines cs = line_style_step 0 cs LineFeed ∙ feed_keeps (is_empty (line 0 cs)) (line_style cs)
+feed_same_lines cs = ap (λ (s : Settings). s.lines) (settings_step 0 cs LineFeed)

@@ -5,7 +5,7 @@ use Rattle.escpos_command.specs.declared.command.Command.{Command}
 use Rattle.escpos_command.specs.declared.command.Command.TheVariants.{Set}
 use Rattle.escpos_command.specs.declared.setting.SettingKind.TheVariants as sets
 use Rattle.escpos_command.specs.Meanings.{magnified, has_bit, size_width}
-use Rattle.escpos_paper.specs.Styles.{sets_width, style}
+use Rattle.escpos_paper.specs.Styles.{power_on, sets_width, style}
 use Rattle.escpos_command.specs.SettingTable.{value}
 use Rattle.escpos_command.specs.Settings.{after_init, last_or}
 
@@ -28,4 +28,4 @@ last_in_range start (Set (sets.Size, p) ∷ cs) h = last_in_range (size_width (v
 last_in_range start (c ∷ cs) h = last_in_range start cs h
 
 pub width_in_range : (cs : List Command) → IsWidth ((style cs).width)
-width_in_range cs = last_in_range 1 (after_init cs) (record { least = omega arith; most = omega arith })
+width_in_range cs = last_in_range power_on.width (after_init cs) (record { least = omega arith; most = omega arith })

@@ -6,23 +6,17 @@ use Rattle.escpos_command.specs.LineWidths.{is_line_width}
 use Rattle.escpos_command.specs.Settings.{stored}
 use Rattle.escpos_paper.specs.declared.cell.Cell.{Cell}
 use Rattle.escpos_paper.specs.declared.item.Item.{Item}
-use Rattle.escpos_paper.specs.declared.style.BarStyle.{BarStyle}
-use Rattle.escpos_paper.specs.declared.style.LineStyle.{LineStyle}
-use Rattle.escpos_paper.specs.declared.style.QrStyle.{QrStyle}
-use Rattle.escpos_paper.specs.declared.style.Style.{Style}
-use Rattle.escpos_paper.specs.Styles.{style, bar_style, line_style, qr_style}
+use Rattle.escpos_paper.specs.declared.style.Settings.{Settings}
+use Rattle.escpos_paper.specs.Styles.{settings}
 use Rattle.escpos_paper.specs.Rows.{line}
 use Rattle.escpos_paper.specs.Printed.{printed}
 
--- What commands leave: the dots of a line, which no command changes, the items on paper, the styles of characters, barcodes, lines and QR codes, the data of QR codes that is
+-- What commands leave: the dots of a line, which no command changes, the items on paper, the settings, the data of QR codes that is
 -- stored, and the line that isn't printed yet.
 pub record Sheet : Type 0 where
   pub line_dots : ℕ
   pub items : List Item
-  pub style : Style
-  pub bar_style : BarStyle
-  pub line_style : LineStyle
-  pub qr_style : QrStyle
+  pub settings : Settings
   pub stored : Option (List ℕ)
   pub line : List Cell
 
@@ -35,16 +29,13 @@ pub record PageView : Type 0 where
 abbrev pub room_for_items : Bool → ℕ → ℕ
 room_for_items is_ready room = if is_ready then room else 0
 
--- The sheet is what these commands leave on paper that held the items `kept`, from power-on styles and an
+-- The sheet is what these commands leave on paper that held the items `kept`, from power-on settings and an
 -- empty line, in lines of this width in dots.
 abbrev pub SheetIs : ℕ → Sheet → List Item → List Command → Type 0
 SheetIs width sheet kept cs = sheet ≡ record {
   line_dots = width;
   items = kept ++ printed width cs;
-  style = style cs;
-  bar_style = bar_style cs;
-  line_style = line_style cs;
-  qr_style = qr_style cs;
+  settings = settings cs;
   stored = stored cs;
   line = line width cs;
 }

@@ -1,4 +1,4 @@
--- The styles after a list of commands. For each attribute the last command that sets it decides, of those
+-- The settings after a list of commands. For each attribute the last command that sets it decides, of those
 -- after the last Init; where none sets it, it has its power-on value. (Reference: ESC !, ESC -, ESC E,
 -- ESC G, ESC M, ESC R, ESC a, ESC t, ESC {, ESC 2, ESC 3, GS !, GS B, GS h, GS w, GS H, GS f, GS ( k, ESC @.)
 use Rattle.std.specs.Prelude.{ℕ, ◌==◌, ◌&&◌, not, Bool, true, false, List, [], ◌∷◌, Option, None, Some, if◌then◌else◌}
@@ -22,6 +22,7 @@ use Rattle.escpos_paper.specs.declared.style.Style.{Style}
 use Rattle.escpos_paper.specs.declared.style.BarStyle.{BarStyle}
 use Rattle.escpos_paper.specs.declared.style.LineStyle.{LineStyle}
 use Rattle.escpos_paper.specs.declared.style.QrStyle.{QrStyle}
+use Rattle.escpos_paper.specs.declared.style.Settings.{Settings}
 use Rattle.escpos_paper.specs.OverPlaces.{over_places}
 
 -- Which commands set an attribute, and to what. ESC ! sets attributes that each have a command of their own, too.
@@ -122,17 +123,14 @@ power_on = record {
   character_set = 0;
 }
 
--- The settings of barcodes of such a printer.
-abbrev pub power_on_bars : BarStyle
-power_on_bars = record { height = 162; module_width = 3; place = Nowhere; hri_font = A }
-
--- How such a printer prints and feeds lines.
-abbrev pub power_on_lines : LineStyle
-power_on_lines = record { alignment = Left; upside_down = false; spacing = None }
-
--- The settings of QR codes of such a printer.
-abbrev pub power_on_qr : QrStyle
-power_on_qr = record { model = 2; size = 3; correction = L }
+-- Its settings.
+abbrev pub power_on_settings : Settings
+power_on_settings = record {
+  text = power_on;
+  bars = record { height = 162; module_width = 3; place = Nowhere; hri_font = A };
+  lines = record { alignment = Left; upside_down = false; spacing = None };
+  codes = record { model = 2; size = 3; correction = L };
+}
 
 -- Whether two styles are the same.
 abbrev pub same_face : FontFace → FontFace → Bool
@@ -153,15 +151,15 @@ same_style s t =
 -- The style that a character after the commands gets.
 abbrev pub style : List Command → Style
 style cs = record {
-  table = setting sets_table 0 cs;
-  font = setting sets_font A cs;
-  width = setting sets_width 1 cs;
-  height = setting sets_height 1 cs;
-  bold = setting sets_bold false cs;
-  underline = setting sets_underline 0 cs;
-  strike = setting sets_strike false cs;
-  reverse = setting sets_reverse false cs;
-  character_set = setting sets_character_set 0 cs;
+  table = setting sets_table power_on.table cs;
+  font = setting sets_font power_on.font cs;
+  width = setting sets_width power_on.width cs;
+  height = setting sets_height power_on.height cs;
+  bold = setting sets_bold power_on.bold cs;
+  underline = setting sets_underline power_on.underline cs;
+  strike = setting sets_strike power_on.strike cs;
+  reverse = setting sets_reverse power_on.reverse cs;
+  character_set = setting sets_character_set power_on.character_set cs;
 }
 
 -- The value of an attribute after a command.
@@ -171,29 +169,33 @@ set_after sets start value c = if is_init c then start else unwrap_or (sets c) v
 -- The style of characters after one more command: the law `styles_grow` says that this is so.
 abbrev pub style_after : Style → Command → Style
 style_after s c = record {
-  table = set_after sets_table 0 s.table c;
-  font = set_after sets_font A s.font c;
-  width = set_after sets_width 1 s.width c;
-  height = set_after sets_height 1 s.height c;
-  bold = set_after sets_bold false s.bold c;
-  underline = set_after sets_underline 0 s.underline c;
-  strike = set_after sets_strike false s.strike c;
-  reverse = set_after sets_reverse false s.reverse c;
-  character_set = set_after sets_character_set 0 s.character_set c;
+  table = set_after sets_table power_on.table s.table c;
+  font = set_after sets_font power_on.font s.font c;
+  width = set_after sets_width power_on.width s.width c;
+  height = set_after sets_height power_on.height s.height c;
+  bold = set_after sets_bold power_on.bold s.bold c;
+  underline = set_after sets_underline power_on.underline s.underline c;
+  strike = set_after sets_strike power_on.strike s.strike c;
+  reverse = set_after sets_reverse power_on.reverse s.reverse c;
+  character_set = set_after sets_character_set power_on.character_set s.character_set c;
 }
 
 -- The settings that a barcode after the commands gets.
 abbrev pub bar_style : List Command → BarStyle
 bar_style cs = record {
-  height = setting sets_bar_height 162 cs;
-  module_width = setting sets_module_width 3 cs;
-  place = setting sets_hri_place Nowhere cs;
-  hri_font = setting sets_hri_font A cs;
+  height = setting sets_bar_height power_on_settings.bars.height cs;
+  module_width = setting sets_module_width power_on_settings.bars.module_width cs;
+  place = setting sets_hri_place power_on_settings.bars.place cs;
+  hri_font = setting sets_hri_font power_on_settings.bars.hri_font cs;
 }
 
 -- The settings that a QR code after the commands gets.
 abbrev pub qr_style : List Command → QrStyle
-qr_style cs = record { model = setting sets_qr_model 2 cs; size = setting sets_qr_size 3 cs; correction = setting sets_correction L cs }
+qr_style cs = record {
+  model = setting sets_qr_model power_on_settings.codes.model cs;
+  size = setting sets_qr_size power_on_settings.codes.size cs;
+  correction = setting sets_correction power_on_settings.codes.correction cs;
+}
 
 abbrev pub is_empty : {X : Type 0} → List X → Bool
 is_empty [] = true
@@ -216,7 +218,11 @@ commands_that_count cs = over_places if_it_counts [] cs
 -- How a line after the commands is printed and fed.
 abbrev pub line_style : List Command → LineStyle
 line_style cs = record {
-  alignment = setting sets_alignment Left (commands_that_count cs);
-  upside_down = setting sets_upside_down false (commands_that_count cs);
-  spacing = setting sets_spacing None cs;
+  alignment = setting sets_alignment power_on_settings.lines.alignment (commands_that_count cs);
+  upside_down = setting sets_upside_down power_on_settings.lines.upside_down (commands_that_count cs);
+  spacing = setting sets_spacing power_on_settings.lines.spacing cs;
 }
+
+-- All settings after the commands.
+abbrev pub settings : List Command → Settings
+settings cs = record { text = style cs; bars = bar_style cs; lines = line_style cs; codes = qr_style cs }

@@ -1,10 +1,10 @@
 //! What a printer's commands put on paper: styles, lines cut into rows, barcodes and rasters, and the paper as text.
 //!
-//! A `Page` takes commands one at a time and keeps the items that they print until they are torn off, the styles that are
-//! set and the line that isn't printed yet. How wide a line is, is a setting of the page that no command changes. The definitions of `specs/` say the same of a whole list of commands,
-//! and look back in it instead of keeping anything.
+//! A `Page` takes commands one at a time and keeps the items that they print until they are torn off, the settings and the line
+//! that isn't printed yet. How wide a line is, is fixed when a page is made. The definitions of `specs/` say the same of a whole
+//! list of commands, and look back in it instead of keeping anything.
 //!
-//! `page` has the page, and `paper` what one command does to the items, the styles and the line. `style` has the styles,
+//! `page` has the page, and `paper` what one command does to the items, the settings and the line. `style` has the settings,
 //! `cell` a character in its style, `print_buffer` the line that isn't printed yet, and `item` what is printed. `barcode`
 //! makes items of barcodes and rasters, whose bytes `content` keeps without copying them, and `digits` has check digits.
 //! `text` is the text of an item, `write` that of the paper. `laws` has what follows from the definitions.
@@ -31,5 +31,5 @@ pub use digits::{all_digits, check_digit};
 pub use item::Item;
 pub use page::Page;
 pub use paper::MOST_ITEMS;
-pub use style::{BarStyle, LineStyle, QrStyle, Style};
+pub use style::{BarStyle, LineStyle, QrStyle, Settings, Style};
 pub use write::write_items;

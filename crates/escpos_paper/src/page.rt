@@ -1,8 +1,7 @@
 //! The page: what the commands so far have put on paper.
 //!
 //! What is printed stays on a page until it is torn off; where each command's items are torn off, a stream of any length
-//! can be printed in the memory that one command takes. A page keeps one style of characters, one of barcodes, one of lines and
-//! one line. The invariant of its type says that these are what the definitions find by looking back in the whole list of
+//! can be printed in the memory that one command takes. A page keeps the settings and one line. The invariant of its type says that these are what the definitions find by looking back in the whole list of
 //! commands. What each command does to them is left to `paper`; a page makes room for it. How wide a line is, is set when a
 //! page is made.
 
@@ -40,10 +39,7 @@ impl Model for Page {
       sheet = record {
         line_dots = p.paper.line_width;
         items = p.paper.items.items;
-        style = p.paper.style;
-        bar_style = p.paper.bar_style;
-        line_style = p.paper.line_style;
-        qr_style = p.paper.qr_style;
+        settings = p.paper.settings;
         stored = p.paper.store.stored;
         line = p.paper.line;
       };
@@ -54,10 +50,7 @@ impl Model for Page {
       sheet = record {
         line_dots = p.paper.line_width;
         items = p.paper.items.items;
-        style = p.paper.style;
-        bar_style = p.paper.bar_style;
-        line_style = p.paper.line_style;
-        qr_style = p.paper.qr_style;
+        settings = p.paper.settings;
         stored = p.paper.store.stored;
         line = p.paper.line;
       };
@@ -66,7 +59,7 @@ impl Model for Page {
 }
 
 impl Page {
-    /// Paper with nothing on it, power-on styles and an empty line, in lines of this width. Allocates nothing.
+    /// Paper with nothing on it, power-on settings and an empty line, in lines of this width. Allocates nothing.
     pub fn new(alloc: Global, width: LineWidth) -> Self
         ensures { PageIs width result [] [] }
     {
@@ -84,7 +77,7 @@ impl Page {
 
     /// Makes room for the items of any one command. The error is a failed allocation.
     ///
-    /// Items, styles and line stay as they are in either case.
+    /// Items, settings and line stay as they are in either case.
     pub fn ready(&mut self) -> Result<(), AllocError>
         ensures same { self.new.sheet ≡ self.old.sheet }
         ensures room { OnOk result (MOST_ITEMS ≤ self.new.room) }
@@ -102,8 +95,8 @@ impl Page {
             && self.paper.items.capacity() - self.paper.items.len() >= MOST_ITEMS
     }
 
-    /// Carries out a command. `Err` returns the command where an allocation failed, and leaves items, styles and line as
-    /// they were. Allocates nothing where the page has room.
+    /// Carries out a command. `Err` returns the command where an allocation failed, and leaves items, settings and line
+    /// as they were. Allocates nothing where the page has room.
     pub fn apply(&mut self, command: Command) -> Result<(), Command>
         ensures taken { OnOk result ((width : ℕ) (kept : List Item) (cs : List Command) →
             PageIs width self.old kept cs → PageIs width self.new kept (cs ++ command ∷ [])) }
@@ -123,7 +116,7 @@ impl Page {
     }
 
     /// Carries out characters: as many from the start of `text` as one line takes, and at least one. Returns how many. `Err`
-    /// where an allocation failed; it leaves items, styles and line as they were. Allocates nothing where the page has room.
+    /// where an allocation failed; it leaves items, settings and line as they were. Allocates nothing where the page has room.
     pub fn apply_text(&mut self, text: &[u8]) -> Result<usize, AllocError>
         requires some { 1 ≤ length text.now }
         requires characters { AllPass is_character text.now }
@@ -147,7 +140,7 @@ impl Page {
         self.paper.items.as_slice()
     }
 
-    /// Drops what is printed on the paper. Styles, line and its width stay, and so does the room of what was dropped.
+    /// Drops what is printed on the paper. Settings, line and its width stay, and so does the room of what was dropped.
     /// Allocates nothing.
     pub fn tear_off(&mut self)
         ensures torn { self.new.sheet ≡ bare self.old.sheet }
@@ -156,7 +149,7 @@ impl Page {
         self.paper.items.clear();
     }
 
-    /// Forgets the commands so far: drops the line and restores the power-on styles. The paper stays, and so does the width
+    /// Forgets the commands so far: drops the line and restores the power-on settings. The paper stays, and so does the width
     /// of a line. Allocates nothing.
     pub fn restart(&mut self)
         ensures forgotten { PageIs self.old.sheet.line_dots self.new self.old.sheet.items [] }

@@ -1,8 +1,7 @@
-//! What one command does to the paper, the styles and the line.
+//! What one command does to the paper, the settings and the line.
 //!
 //! `Paper::carry_out` has an arm for every kind of command, and is the only function of this crate that has; `Paper::set` has one
-//! for every kind of setting. `page` makes
-//! room for the items first, so nothing here can fail.
+//! for every kind of setting. `page` makes room for the items first, so nothing here can fail.
 
 ghost use Rattle.std.specs.Prelude.{◌≡◌, ◌+◌, ◌≤◌, ℕ, IsTrue, [], ◌∷◌, ◌++◌, length, map, take, if◌then◌else◌, None, true, vec_len, vec_capacity};
 ghost use Rattle.escpos_command.specs.declared.command.Command.TheVariants as kind;
@@ -13,16 +12,16 @@ ghost use Rattle.escpos_command.specs.Text.{is_some};
 ghost use Rattle.escpos_paper.specs.Printed.{row_of, row_and_feed, prints_stored};
 ghost use Rattle.escpos_paper.specs.declared.item.Item.TheVariants as item;
 ghost use Rattle.escpos_paper.specs.Rows.{fits};
-ghost use Rattle.escpos_paper.specs.Styles.{power_on, power_on_bars, power_on_lines, power_on_qr, is_empty, style_after, set_after};
+ghost use Rattle.escpos_paper.specs.Styles.{power_on_settings, is_empty, set_after};
 ghost use Rattle.escpos_paper.specs.Cells.{cell};
-ghost use Rattle.escpos_paper.specs.Steps.{sheet_on, sheet_after_all, step_prints, bar_style_after, line_style_after, qr_style_after, line_after, with_cell};
+ghost use Rattle.escpos_paper.specs.Steps.{sheet_on, sheet_after_all, step_prints, settings_after, line_after, with_cell};
 
 use crate::barcode::{bars_item, raster_item};
 use crate::cell::Cell;
 use crate::item::Item;
 use crate::print_buffer::PrintBuffer;
 use crate::qr_store::QrStore;
-use crate::style::{BarStyle, LineStyle, QrStyle, Style};
+use crate::style::{LineStyle, Settings, Style};
 use escpos_command::{
     Command, Cut, LineWidth, SettingKind, choice, face_of, has_bit, hri_position_of,
 };
@@ -33,60 +32,45 @@ pub const MOST_ITEMS: usize = 3;
 
 const _: () = prove!(MOST_ITEMS == 3);
 
-/// What commands leave: how wide a line is, which no command changes, the items on paper, the styles of characters, barcodes, lines and QR codes, the data of QR codes that is
-/// stored, and the line that isn't printed yet.
+/// What commands leave: how wide a line is, which no command changes, the items on paper, the settings, the data of QR codes that
+/// is stored, and the line that isn't printed yet.
 #[derive(Drop)]
 pub struct Paper {
     pub line_width: LineWidth,
     pub items: Vec<Item>,
-    pub style: Style,
-    pub bar_style: BarStyle,
-    pub line_style: LineStyle,
-    pub qr_style: QrStyle,
+    pub settings: Settings,
     pub store: QrStore,
     pub line: PrintBuffer,
 }
 
 impl Paper {
-    /// Paper with nothing on it, power-on styles and an empty line, in lines of this width. Allocates nothing.
+    /// Paper with nothing on it, power-on settings and an empty line, in lines of this width. Allocates nothing.
     pub fn new(alloc: Global, width: LineWidth) -> Self
         ensures line_width { result.line_width ≡ width }
         ensures items { result.items.items ≡ [] }
-        ensures style { result.style ≡ power_on }
-        ensures bar_style { result.bar_style ≡ power_on_bars }
-        ensures line_style { result.line_style ≡ power_on_lines }
-        ensures qr_style { result.qr_style ≡ power_on_qr }
+        ensures settings { result.settings ≡ power_on_settings }
         ensures stored { result.store.stored ≡ None }
         ensures line { result.line ≡ [] }
     {
         Paper {
             line_width: width,
             items: Vec::new(alloc),
-            style: Style::power_on(),
-            bar_style: BarStyle::power_on(),
-            line_style: LineStyle::power_on(),
-            qr_style: QrStyle::power_on(),
+            settings: Settings::power_on(),
             store: QrStore::new(alloc),
             line: PrintBuffer::new(),
         }
     }
 
-    /// Drops the line and restores the power-on styles. The items stay, and so does the width of a line.
+    /// Drops the line and restores the power-on settings. The items stay, and so does the width of a line.
     pub fn initialise(&mut self)
         ensures line_width { self.new.line_width ≡ self.old.line_width }
         ensures items { self.new.items ≡ self.old.items }
-        ensures style { self.new.style ≡ power_on }
-        ensures bar_style { self.new.bar_style ≡ power_on_bars }
-        ensures line_style { self.new.line_style ≡ power_on_lines }
-        ensures qr_style { self.new.qr_style ≡ power_on_qr }
+        ensures settings { self.new.settings ≡ power_on_settings }
         ensures stored { self.new.store.stored ≡ None }
         ensures ready { self.new.store.ready ≡ true }
         ensures line { self.new.line ≡ [] }
     {
-        self.style = Style::power_on();
-        self.bar_style = BarStyle::power_on();
-        self.line_style = LineStyle::power_on();
-        self.qr_style = QrStyle::power_on();
+        self.settings = Settings::power_on();
         self.store.clear();
         self.line = PrintBuffer::new();
     }
@@ -95,26 +79,23 @@ impl Paper {
     pub fn carry_out(&mut self, command: Command)
         requires room { vec_len self.old.items + MOST_ITEMS ≤ vec_capacity self.old.items }
         requires ready { IsTrue self.old.store.ready }
-        requires visible { 1 ≤ self.old.style.width }
-        requires narrow { self.old.style.width ≤ 8 }
+        requires visible { 1 ≤ self.old.settings.text.width }
+        requires narrow { self.old.settings.text.width ≤ 8 }
         ensures line_width { self.new.line_width ≡ self.old.line_width }
         ensures items { self.new.items.items
-            ≡ self.old.items.items ++ step_prints self.old.line_width self.old.style self.old.bar_style self.old.line_style self.old.qr_style self.old.store.stored self.old.line command }
-        ensures style { self.new.style ≡ style_after self.old.style command }
-        ensures bar_style { self.new.bar_style ≡ bar_style_after self.old.bar_style command }
-        ensures line_style { self.new.line_style ≡ line_style_after (is_empty self.old.line) self.old.line_style command }
-        ensures qr_style { self.new.qr_style ≡ qr_style_after self.old.qr_style command }
+            ≡ self.old.items.items ++ step_prints self.old.line_width self.old.settings self.old.store.stored self.old.line command }
+        ensures settings { self.new.settings ≡ settings_after (is_empty self.old.line) self.old.settings command }
         ensures stored { self.new.store.stored ≡ set_after sets_stored None self.old.store.stored command }
-        ensures line { self.new.line ≡ line_after self.old.line_width self.old.style self.old.store.stored self.old.line command }
+        ensures line { self.new.line ≡ line_after self.old.line_width self.old.settings.text self.old.store.stored self.old.line command }
     {
         match command {
             Command::Char(character) => {
-                let cell = self.style.cell(character.byte());
+                let cell = self.settings.text.cell(character.byte());
                 put_cell(
                     &mut self.items,
                     &mut self.line,
                     self.line_width,
-                    self.line_style,
+                    self.settings.lines,
                     cell,
                 );
             }
@@ -122,17 +103,17 @@ impl Paper {
             Command::FeedLines(lines) => self.feed(self.feed_of(lines.byte())),
             Command::FeedUnits(units) => self.feed(Item::FeedUnits(units.byte())),
             Command::Bars(bars) => self.print(bars_item(
-                self.line_style.alignment,
-                self.bar_style,
+                self.settings.lines.alignment,
+                self.settings.bars,
                 bars,
             )),
-            Command::Raster(raster) => self.print(raster_item(self.line_style.alignment, raster)),
+            Command::Raster(raster) => self.print(raster_item(self.settings.lines.alignment, raster)),
             Command::Cut(cut) => self.print(cut_item(cut)),
             Command::QrPrint => self.print_stored(),
             Command::QrStore(stored) => self.store.store(stored),
-            Command::QrModel(model) => self.qr_style.model = model.number(),
-            Command::QrSize(size) => self.qr_style.size = size.byte(),
-            Command::QrLevel(level) => self.qr_style.correction = level.correction(),
+            Command::QrModel(model) => self.settings.codes.model = model.number(),
+            Command::QrSize(size) => self.settings.codes.size = size.byte(),
+            Command::QrLevel(level) => self.settings.codes.correction = level.correction(),
             Command::Init => self.initialise(),
             Command::Set(setting) => self.set(setting.kind(), setting.parameter()),
             Command::Return
@@ -147,36 +128,33 @@ impl Paper {
     fn set(&mut self, kind: SettingKind, parameter: Option<u8>)
         ensures line_width { self.new.line_width ≡ self.old.line_width }
         ensures items { self.new.items ≡ self.old.items }
-        ensures style { self.new.style ≡ style_after self.old.style (Set (kind, parameter)) }
-        ensures bar_style { self.new.bar_style ≡ bar_style_after self.old.bar_style (Set (kind, parameter)) }
-        ensures line_style { self.new.line_style ≡ line_style_after (is_empty self.old.line) self.old.line_style (Set (kind, parameter)) }
-        ensures qr_style { self.new.qr_style ≡ self.old.qr_style }
+        ensures settings { self.new.settings ≡ settings_after (is_empty self.old.line) self.old.settings (Set (kind, parameter)) }
         ensures store { self.new.store ≡ self.old.store }
         ensures line { self.new.line ≡ self.old.line }
     {
         let value = parameter.unwrap_or(0);
         match kind {
-            SettingKind::Mode => self.style = self.style.in_mode(value),
-            SettingKind::Size => self.style = self.style.in_size(value),
-            SettingKind::Table => self.style.table = value,
-            SettingKind::Font => self.style.font = face_of(choice(value)),
-            SettingKind::Emphasis => self.style.bold = has_bit(value, 0),
-            SettingKind::Underline => self.style.underline = choice(value),
-            SettingKind::DoubleStrike => self.style.strike = has_bit(value, 0),
-            SettingKind::Reverse => self.style.reverse = has_bit(value, 0),
-            SettingKind::CharacterSet => self.style.character_set = value,
+            SettingKind::Mode => self.settings.text = self.settings.text.in_mode(value),
+            SettingKind::Size => self.settings.text = self.settings.text.in_size(value),
+            SettingKind::Table => self.settings.text.table = value,
+            SettingKind::Font => self.settings.text.font = face_of(choice(value)),
+            SettingKind::Emphasis => self.settings.text.bold = has_bit(value, 0),
+            SettingKind::Underline => self.settings.text.underline = choice(value),
+            SettingKind::DoubleStrike => self.settings.text.strike = has_bit(value, 0),
+            SettingKind::Reverse => self.settings.text.reverse = has_bit(value, 0),
+            SettingKind::CharacterSet => self.settings.text.character_set = value,
             SettingKind::Align => {
-                self.line_style = self.line_style.aligned(self.line.is_empty(), value);
+                self.settings.lines = self.settings.lines.aligned(self.line.is_empty(), value);
             }
             SettingKind::UpsideDown => {
-                self.line_style = self.line_style.turned(self.line.is_empty(), value);
+                self.settings.lines = self.settings.lines.turned(self.line.is_empty(), value);
             }
-            SettingKind::LineSpacing => self.line_style.spacing = Some(value),
-            SettingKind::DefaultSpacing => self.line_style.spacing = None,
-            SettingKind::BarHeight => self.bar_style.height = value,
-            SettingKind::BarWidth => self.bar_style.module_width = value,
-            SettingKind::HriPlace => self.bar_style.place = hri_position_of(choice(value)),
-            SettingKind::HriFont => self.bar_style.hri_font = face_of(choice(value)),
+            SettingKind::LineSpacing => self.settings.lines.spacing = Some(value),
+            SettingKind::DefaultSpacing => self.settings.lines.spacing = None,
+            SettingKind::BarHeight => self.settings.bars.height = value,
+            SettingKind::BarWidth => self.settings.bars.module_width = value,
+            SettingKind::HriPlace => self.settings.bars.place = hri_position_of(choice(value)),
+            SettingKind::HriFont => self.settings.bars.hri_font = face_of(choice(value)),
             SettingKind::Smoothing => {}
         }
     }
@@ -186,8 +164,8 @@ impl Paper {
     pub fn put_text(&mut self, text: &[u8]) -> usize
         requires some { 1 ≤ length text.now }
         requires room { vec_len self.old.items + 2 ≤ vec_capacity self.old.items }
-        requires visible { 1 ≤ self.old.style.width }
-        requires narrow { self.old.style.width ≤ 8 }
+        requires visible { 1 ≤ self.old.settings.text.width }
+        requires narrow { self.old.settings.text.width ≤ 8 }
         ensures count { (1 ≤ result) × (result ≤ length text.now) }
         ensures sheet { sheet_on self.new ≡ sheet_after_all (sheet_on self.old) (map kind.Char (take result text.now)) }
     {
@@ -195,22 +173,22 @@ impl Paper {
             &mut self.items,
             &mut self.line,
             self.line_width,
-            self.line_style,
-            &self.style,
+            self.settings.lines,
+            &self.settings.text,
         );
-        let room = self.line.room_for(self.line_width, &self.style);
+        let room = self.line.room_for(self.line_width, &self.settings.text);
         let count = text.len().min(room);
-        self.line.extend(self.style, &text[..count]);
+        self.line.extend(self.settings.text, &text[..count]);
         count
     }
 
     // A feed of this many lines, in the spacing that is set.
     fn feed_of(&self, lines: u8) -> Item
-        ensures { result ≡ item.Feed lines self.now.line_style.spacing }
+        ensures { result ≡ item.Feed lines self.now.settings.lines.spacing }
     {
         Item::Feed {
             lines,
-            spacing: self.line_style.spacing,
+            spacing: self.settings.lines.spacing,
         }
     }
 
@@ -218,16 +196,13 @@ impl Paper {
     fn feed(&mut self, feed: Item)
         requires { vec_len self.old.items + 2 ≤ vec_capacity self.old.items }
         ensures items { self.new.items.items
-            ≡ self.old.items.items ++ row_of self.old.line_style self.old.line ++ feed ∷ [] }
+            ≡ self.old.items.items ++ row_of self.old.settings.lines self.old.line ++ feed ∷ [] }
         ensures line_width { self.new.line_width ≡ self.old.line_width }
-        ensures style { self.new.style ≡ self.old.style }
-        ensures bar_style { self.new.bar_style ≡ self.old.bar_style }
-        ensures line_style { self.new.line_style ≡ self.old.line_style }
-        ensures qr_style { self.new.qr_style ≡ self.old.qr_style }
+        ensures settings { self.new.settings ≡ self.old.settings }
         ensures store { self.new.store ≡ self.old.store }
         ensures line { self.new.line ≡ [] }
     {
-        print_line(&mut self.items, &mut self.line, self.line_style);
+        print_line(&mut self.items, &mut self.line, self.settings.lines);
         self.items.push_reserved(feed);
     }
 
@@ -236,21 +211,18 @@ impl Paper {
         requires room { vec_len self.old.items + MOST_ITEMS ≤ vec_capacity self.old.items }
         requires ready { IsTrue self.old.store.ready }
         ensures items { self.new.items.items
-            ≡ self.old.items.items ++ prints_stored self.old.line_style self.old.qr_style self.old.store.stored self.old.line }
+            ≡ self.old.items.items ++ prints_stored self.old.settings.lines self.old.settings.codes self.old.store.stored self.old.line }
         ensures line_width { self.new.line_width ≡ self.old.line_width }
-        ensures style { self.new.style ≡ self.old.style }
-        ensures bar_style { self.new.bar_style ≡ self.old.bar_style }
-        ensures line_style { self.new.line_style ≡ self.old.line_style }
-        ensures qr_style { self.new.qr_style ≡ self.old.qr_style }
+        ensures settings { self.new.settings ≡ self.old.settings }
         ensures stored { self.new.store.stored ≡ self.old.store.stored }
         ensures line { self.new.line ≡ (if is_some self.old.store.stored then [] else self.old.line) }
     {
         if let Some(content) = self.store.copy() {
             self.print(Item::Qr {
-                align: self.line_style.alignment,
-                model: self.qr_style.model,
-                size: self.qr_style.size,
-                level: self.qr_style.correction,
+                align: self.settings.lines.alignment,
+                model: self.settings.codes.model,
+                size: self.settings.codes.size,
+                level: self.settings.codes.correction,
                 content,
             });
         }
@@ -260,16 +232,13 @@ impl Paper {
     fn print(&mut self, item: Item)
         requires { vec_len self.old.items + MOST_ITEMS ≤ vec_capacity self.old.items }
         ensures items { self.new.items.items
-            ≡ self.old.items.items ++ row_and_feed self.old.line_style self.old.line ++ item ∷ [] }
+            ≡ self.old.items.items ++ row_and_feed self.old.settings.lines self.old.line ++ item ∷ [] }
         ensures line_width { self.new.line_width ≡ self.old.line_width }
-        ensures style { self.new.style ≡ self.old.style }
-        ensures bar_style { self.new.bar_style ≡ self.old.bar_style }
-        ensures line_style { self.new.line_style ≡ self.old.line_style }
-        ensures qr_style { self.new.qr_style ≡ self.old.qr_style }
+        ensures settings { self.new.settings ≡ self.old.settings }
         ensures store { self.new.store ≡ self.old.store }
         ensures line { self.new.line ≡ [] }
     {
-        end_line(&mut self.items, &mut self.line, self.line_style);
+        end_line(&mut self.items, &mut self.line, self.settings.lines);
         self.items.push_reserved(item);
     }
 }

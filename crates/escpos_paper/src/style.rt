@@ -1,10 +1,10 @@
-//! How characters, lines, barcodes and QR codes are printed. What each command does to the styles is left to `paper`, but for the two
-//! commands that set more than one attribute.
+//! The settings: how characters, barcodes, lines and QR codes are printed. What each command does to them is left to `paper`, but for
+//! those that set more than one attribute and those that are ignored in mid-line.
 
 ghost use Rattle.std.specs.Prelude.{◌≡◌, ◌↔◌, ◌*◌, IsTrue, Some};
 ghost use Rattle.escpos_command.specs.declared.command.Command.TheVariants as kind;
 ghost use Rattle.escpos_command.specs.declared.setting.SettingKind.TheVariants as sets;
-ghost use Rattle.escpos_paper.specs.Styles.{power_on, power_on_bars, power_on_lines, power_on_qr, same_style, style_after};
+ghost use Rattle.escpos_paper.specs.Styles.{power_on, power_on_settings, same_style, style_after};
 ghost use Rattle.escpos_paper.specs.Cells.{cell, face_dots};
 ghost use Rattle.escpos_paper.specs.Steps.{line_style_after};
 
@@ -13,6 +13,44 @@ use escpos_command::{
     Alignment, Correction, FontFace, HriPosition, alignment_of, choice, face_of_mode, has_bit,
     magnified, size_height, size_width, underline_of_mode,
 };
+
+/// How a printer prints. Init (ESC @) puts all of it back.
+#[derive(Clone, Copy, Debug, PartialEq, Eq)]
+pub struct Settings {
+    pub text: Style,
+    pub bars: BarStyle,
+    pub lines: LineStyle,
+    pub codes: QrStyle,
+}
+
+impl Settings {
+    /// The settings of a printer just switched on: characters as `Style::power_on` has them; barcodes 162 dots high, with modules of
+    /// 3 dots and no interpretation, its font A; lines at the left, upright, with the default spacing; QR codes of model 2, with
+    /// modules of 3 dots and level L.
+    pub fn power_on() -> Self
+        ensures { result ≡ power_on_settings }
+    {
+        Settings {
+            text: Style::power_on(),
+            bars: BarStyle {
+                height: 162,
+                module_width: 3,
+                place: HriPosition::Nowhere,
+                hri_font: FontFace::A,
+            },
+            lines: LineStyle {
+                alignment: Alignment::Left,
+                upside_down: false,
+                spacing: None,
+            },
+            codes: QrStyle {
+                model: 2,
+                size: 3,
+                correction: Correction::L,
+            },
+        }
+    }
+}
 
 /// How a character is printed.
 #[derive(Clone, Copy, Debug, PartialEq, Eq)]
@@ -124,17 +162,6 @@ pub struct LineStyle {
 }
 
 impl LineStyle {
-    /// The lines of a printer just switched on: left, upright, with the default spacing.
-    pub fn power_on() -> Self
-        ensures { result ≡ power_on_lines }
-    {
-        LineStyle {
-            alignment: Alignment::Left,
-            upside_down: false,
-            spacing: None,
-        }
-    }
-
     // After ESC a, which is ignored if the line has text.
     pub(crate) fn aligned(self, is_line_empty: bool, align: u8) -> Self
         ensures { result ≡ line_style_after is_line_empty self (kind.Set (sets.Align, Some align)) }
@@ -174,19 +201,6 @@ pub struct QrStyle {
     pub correction: Correction,
 }
 
-impl QrStyle {
-    /// The settings of a printer just switched on: model 2, size 3, level L.
-    pub fn power_on() -> Self
-        ensures { result ≡ power_on_qr }
-    {
-        QrStyle {
-            model: 2,
-            size: 3,
-            correction: Correction::L,
-        }
-    }
-}
-
 /// How a barcode is printed.
 #[derive(Clone, Copy, Debug, PartialEq, Eq)]
 pub struct BarStyle {
@@ -198,18 +212,4 @@ pub struct BarStyle {
     pub place: HriPosition,
     /// The font of that interpretation.
     pub hri_font: FontFace,
-}
-
-impl BarStyle {
-    /// The settings of a printer just switched on: height 162, module width 3, no interpretation, its font A.
-    pub fn power_on() -> Self
-        ensures { result ≡ power_on_bars }
-    {
-        BarStyle {
-            height: 162,
-            module_width: 3,
-            place: HriPosition::Nowhere,
-            hri_font: FontFace::A,
-        }
-    }
 }

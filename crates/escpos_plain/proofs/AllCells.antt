@@ -50,16 +50,16 @@ at_stored lines qr None row = sym (append-nil row)
 at_stored lines qr (Some bytes) row = before_others (row_and_feed lines row) _ row (cells_of_row_and_feed lines row) refl
 
 one_command : (s : Sheet) (c : Command) → c ≢ Init
-    → row_cells (step_prints s.line_dots s.style s.bar_style s.line_style s.qr_style s.stored s.line c) ++ line_after s.line_dots s.style s.stored s.line c
-    ≡ s.line ++ map (cell s.style) (characters c)
-one_command s (Char b) h = at_character s.line_style s.line (cell s.style b) (fits s.line_dots (s.line ++ cell s.style b ∷ []))
-one_command s LineFeed h = before_others (row_of s.line_style s.line) _ s.line (cells_of_row s.line_style s.line) refl
-one_command s (FeedLines n) h = before_others (row_of s.line_style s.line) _ s.line (cells_of_row s.line_style s.line) refl
-one_command s (FeedUnits n) h = before_others (row_of s.line_style s.line) _ s.line (cells_of_row s.line_style s.line) refl
-one_command s (Bars bars) h = before_others (row_and_feed s.line_style s.line) _ s.line (cells_of_row_and_feed s.line_style s.line) refl
-one_command s (Raster raster) h = before_others (row_and_feed s.line_style s.line) _ s.line (cells_of_row_and_feed s.line_style s.line) refl
-one_command s (Cut how) h = before_others (row_and_feed s.line_style s.line) _ s.line (cells_of_row_and_feed s.line_style s.line) refl
-one_command s QrPrint h = at_stored s.line_style s.qr_style s.stored s.line
+    → row_cells (step_prints s.line_dots s.settings s.stored s.line c) ++ line_after s.line_dots s.settings.text s.stored s.line c
+    ≡ s.line ++ map (cell s.settings.text) (characters c)
+one_command s (Char b) h = at_character s.settings.lines s.line (cell s.settings.text b) (fits s.line_dots (s.line ++ cell s.settings.text b ∷ []))
+one_command s LineFeed h = before_others (row_of s.settings.lines s.line) _ s.line (cells_of_row s.settings.lines s.line) refl
+one_command s (FeedLines n) h = before_others (row_of s.settings.lines s.line) _ s.line (cells_of_row s.settings.lines s.line) refl
+one_command s (FeedUnits n) h = before_others (row_of s.settings.lines s.line) _ s.line (cells_of_row s.settings.lines s.line) refl
+one_command s (Bars bars) h = before_others (row_and_feed s.settings.lines s.line) _ s.line (cells_of_row_and_feed s.settings.lines s.line) refl
+one_command s (Raster raster) h = before_others (row_and_feed s.settings.lines s.line) _ s.line (cells_of_row_and_feed s.settings.lines s.line) refl
+one_command s (Cut how) h = before_others (row_and_feed s.settings.lines s.line) _ s.line (cells_of_row_and_feed s.settings.lines s.line) refl
+one_command s QrPrint h = at_stored s.settings.lines s.settings.codes s.stored s.line
 one_command s Init h = absurd (h refl)
 one_command s c h = sym (append-nil s.line)
 
@@ -74,8 +74,8 @@ one_more : (w : ℕ) (cs : List Command) (c : Command) → c ≢ Init → row_ce
     → row_cells (printed w (cs ++ c ∷ [])) ++ line w (cs ++ c ∷ []) ≡ typed [] (cs ++ c ∷ [])
 one_more w cs c h is =
     let s = sheet_of w [] cs in
-    let new = step_prints s.line_dots s.style s.bar_style s.line_style s.qr_style s.stored s.line c in
-    let left = line_after s.line_dots s.style s.stored s.line c in
+    let new = step_prints s.line_dots s.settings s.stored s.line c in
+    let left = line_after s.line_dots s.settings.text s.stored s.line c in
     ap (λ items. row_cells items ++ line w (cs ++ c ∷ [])) (printed-snoc w cs c)
     ∙ ap (λ l. row_cells (printed w cs ++ new) ++ l) (line-snoc w cs c)
     ∙ ap (λ l. l ++ left) (flat_map-append cells_on (printed w cs) new)

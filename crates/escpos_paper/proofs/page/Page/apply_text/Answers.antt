@@ -13,11 +13,11 @@ use Rattle.escpos_paper.proofs.page.Page.apply_text.Goals as goal
 
 pub put_text-requires-clause-visible : goal.put_text-requires-clause-visible
 put_text-requires-clause-visible c =
-    (width_of c.self.invariant.line_dots c.self.inside.paper.style _ c.self.invariant.kept c.self.invariant.commands refl c.self.invariant.page_is).least
+    (width_of c.self.invariant.line_dots _ c.self.invariant.kept c.self.invariant.commands c.self.invariant.page_is).least
 
 pub put_text-requires-clause-narrow : goal.put_text-requires-clause-narrow
 put_text-requires-clause-narrow c =
-    (width_of c.self.invariant.line_dots c.self.inside.paper.style _ c.self.invariant.kept c.self.invariant.commands refl c.self.invariant.page_is).most
+    (width_of c.self.invariant.line_dots _ c.self.invariant.kept c.self.invariant.commands c.self.invariant.page_is).most
 
 pub invariant_of-self : goal.invariant_of-self
 invariant_of-self c =

@@ -18,7 +18,7 @@ extend-requires-clause-room c =
     let text = take c.min-count.result c.args.text.now in
     let long : length text ≡ c.min-count.result = omega (arith, length-take c.min-count.result c.args.text.now, c.min-count.ensures) in
     let some : 1 ≤ length text = omega (arith, long, room, c.requires.some, c.min-count.ensures) in
-    text_inside c.args.self.now.line_width c.args.self.now.style c.make_room.new.line text c.room_for-room.ensures.most c.requires.narrow some
+    text_inside c.args.self.now.line_width c.args.self.now.settings.text c.make_room.new.line text c.room_for-room.ensures.most c.requires.narrow some
     (c.room_for-room.ensures.fit text some (omega (arith, long, c.min-count.ensures)))
 
 pub returns-clause-count : goal.returns-clause-count
