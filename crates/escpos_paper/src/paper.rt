@@ -107,7 +107,10 @@ impl Paper {
                 self.settings.bars,
                 bars,
             )),
-            Command::Raster(raster) => self.print(raster_item(self.settings.lines.alignment, raster)),
+            Command::Raster(raster) => self.print(raster_item(
+                self.settings.lines.alignment,
+                raster,
+            )),
             Command::Cut(cut) => self.print(cut_item(cut)),
             Command::QrPrint => self.print_stored(),
             Command::QrStore(stored) => self.store.store(stored),
