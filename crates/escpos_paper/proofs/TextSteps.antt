@@ -18,8 +18,8 @@ with_text sheet items row = record sheet { items = items; line = row }
 -- A character goes into the line, or begins the next.
 char_step : (sheet : Sheet) (b : ℕ) (there : Bool) → fits sheet.line_dots (sheet.line ++ cell sheet.settings.text b ∷ []) ≡ there
     → sheet_after sheet (Char b) ≡ with_text sheet (sheet.items ++ (if there then [] else row_and_feed sheet.settings.lines sheet.line)) ((if there then sheet.line else []) ++ cell sheet.settings.text b ∷ [])
-char_step sheet b true e = cc e
-char_step sheet b false e = cc e
+char_step sheet b true e = rw e refl
+char_step sheet b false e = rw e refl
 
 -- Characters that all fit go into the line.
 in_line : (sheet : Sheet) (bs : List ℕ) → IsTrue (fits sheet.line_dots (sheet.line ++ map (cell sheet.settings.text) bs))

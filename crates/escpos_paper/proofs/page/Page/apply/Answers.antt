@@ -1,5 +1,5 @@
 -- What `apply` leaves is the sheet after the command, and so the sheet of the list with one more command.
-use Rattle.std.proofs.Common.{[], ◌∷◌, ◌++◌, ap, ◌∙◌, refl}
+use Rattle.std.proofs.Common.{[], ◌∷◌, ◌++◌, ap, ◌∙◌}
 use Rattle.escpos_paper.specs.Page.{PageView}
 use Rattle.escpos_paper.proofs.Sheets.{sheet_step}
 use Rattle.escpos_paper.specs.Torn.{below}

@@ -1,5 +1,5 @@
 -- What `apply_text` leaves is the sheet after the characters, and so the sheet of the list with these.
-use Rattle.std.proofs.Common.{[], ◌++◌, map, take, ap, ◌∙◌, refl}
+use Rattle.std.proofs.Common.{[], ◌++◌, map, take, ap, ◌∙◌}
 use Rattle.std.specs.Prelude.{IsTrue}
 use Rattle.std.proofs.lemmas.List.Elements.{All-take}
 use Rattle.escpos_command.specs.declared.command.Command.TheVariants.{Char}
