@@ -2,15 +2,14 @@
 use Rattle.std.proofs.Common.{◌≡◌, List, [], ◌∷◌, ◌++◌, refl, ap, sym, ◌∙◌, subst, append_assoc, append-nil}
 use Rattle.escpos_paper.specs.declared.item.Item.{Item}
 use Rattle.escpos_paper.specs.declared.cell.Cell.{Cell}
+use Rattle.escpos_paper.specs.declared.paper.Paper.{Paper}
 use Rattle.escpos_paper.specs.declared.style.Settings.{Settings}
-use Rattle.escpos_command.specs.Settings.{sets_stored}
-use Rattle.std.specs.Prelude.{ℕ, Option, None}
+use Rattle.std.specs.Prelude.{ℕ, Option}
 use Rattle.escpos_command.specs.declared.command.Command.{Command}
 use Rattle.escpos_command.specs.CommandTable.{IsCommand, AreCommands}
-use Rattle.escpos_paper.specs.Styles.{is_empty, set_after}
 use Rattle.escpos_paper.specs.Page.{Sheet}
 use Rattle.escpos_paper.specs.Torn.{below}
-use Rattle.escpos_paper.specs.Steps.{settings_after, line_after, step_prints, sheet_after, sheet_after_all}
+use Rattle.escpos_paper.specs.Steps.{step_prints, sheet_after, sheet_after_all, sheet_on}
 use Rattle.escpos_paper.proofs.Sheets.{sheet_of, sheet_step}
 use Rattle.escpos_paper.proofs.Widths.{IsWidth, width_in_range}
 
@@ -23,14 +22,11 @@ pub one_more : (cs : List Command) (c : Command) → AreCommands cs → IsComman
 one_more [] c h k = (k, tt)
 one_more (d ∷ cs) c h k = (h.0, one_more cs c h.1 k)
 
--- The sheet after a command, made of its parts.
-pub sheet_made : (old_width new_width : ℕ) (items printed : List Item) (s t : Settings) (old_data new_data : Option (List ℕ)) (row rest : List Cell) (c : Command)
-    → new_width ≡ old_width → printed ≡ items ++ step_prints old_width s old_data row c → t ≡ settings_after (is_empty row) s c
-    → new_data ≡ set_after sets_stored None old_data c → rest ≡ line_after old_width s.text old_data row c
-    → (let new : Sheet = record { line_dots = new_width; items = printed; settings = t; stored = new_data; line = rest } in
-    let old : Sheet = record { line_dots = old_width; items = items; settings = s; stored = old_data; line = row } in
-    new ≡ sheet_after old c)
-sheet_made old_width new_width items printed s t old_data new_data row rest c e p q r v = cc
+-- The sheet of a paper that has these parts.
+pub sheet_made : (paper : Paper) (width : ℕ) (items : List Item) (settings : Settings) (kept_data : Option (List ℕ)) (row : List Cell)
+    → paper.line_width ≡ width → paper.items.items ≡ items → paper.settings ≡ settings → paper.store.stored ≡ kept_data → paper.line ≡ row
+    → sheet_on paper ≡ record { line_dots = width; items = items; settings = settings; stored = kept_data; line = row }
+sheet_made paper width items settings kept_data row e p q r v = cc
 
 -- A step is the same below any items.
 pub step_below : (gone : List Item) (sheet : Sheet) (c : Command) → below gone (sheet_after sheet c) ≡ sheet_after (below gone sheet) c

@@ -1,6 +1,6 @@
--- What one more command makes of the settings, line and paper. Only private clauses and proofs use these definitions; those of a
--- whole list of commands are proved to agree with them.
-use Rattle.std.specs.Prelude.{ℕ, ◌&&◌, not, Bool, List, [], ◌∷◌, ◌++◌, Option, None, if◌then◌else◌}
+-- What one more command makes of the settings, line and paper. Only private clauses, the model of a page and proofs use these
+-- definitions; those of a whole list of commands are proved to agree with them.
+use Rattle.std.specs.Prelude.{ℕ, ◌-◌, ◌&&◌, not, Bool, List, [], ◌∷◌, ◌++◌, Option, None, if◌then◌else◌, vec_len, vec_capacity}
 use Rattle.escpos_command.specs.declared.command.Command.{Command}
 use Rattle.escpos_command.specs.declared.command.Command.TheVariants as kind
 use Rattle.escpos_command.specs.Meanings.{leaves_a_point}
@@ -19,7 +19,7 @@ use Rattle.escpos_command.specs.Settings.{sets_stored}
 use Rattle.escpos_paper.specs.Cells.{cell}
 use Rattle.escpos_paper.specs.Rows.{fits}
 use Rattle.escpos_paper.specs.Printed.{row_of, row_and_feed, bars_item, raster_item, prints_stored}
-use Rattle.escpos_paper.specs.Page.{Sheet}
+use Rattle.escpos_paper.specs.Page.{Sheet, PageView, room_for_items}
 
 abbrev pub bar_style_after : BarStyle → Command → BarStyle
 bar_style_after s c = record {
@@ -85,6 +85,10 @@ sheet_on paper = record {
   stored = paper.store.stored;
   line = paper.line;
 }
+
+-- What a page of this paper has.
+abbrev pub page_on : Paper → PageView
+page_on paper = record { sheet = sheet_on paper; room = room_for_items paper.store.ready (vec_capacity paper.items - vec_len paper.items) }
 
 -- The sheet after a command.
 abbrev pub sheet_after : Sheet → Command → Sheet

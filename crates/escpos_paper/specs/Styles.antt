@@ -123,7 +123,7 @@ power_on = record {
   character_set = 0;
 }
 
--- Its settings.
+-- All its settings. Init restores them.
 abbrev pub power_on_settings : Settings
 power_on_settings = record {
   text = power_on;

@@ -1,9 +1,9 @@
 //! The page: what the commands so far have put on paper.
 //!
 //! What is printed stays on a page until it is torn off; where each command's items are torn off, a stream of any length
-//! can be printed in the memory that one command takes. A page keeps the settings and one line. The invariant of its type says that these are what the definitions find by looking back in the whole list of
-//! commands. What each command does to them is left to `paper`; a page makes room for it. How wide a line is, is set when a
-//! page is made.
+//! can be printed in the memory that one command takes. A page keeps the settings and one line. The invariant of its type says
+//! that these are what the definitions find by looking back in the whole list of commands. What each command does to them is left
+//! to `paper`; a page makes room for it. How wide a line is, is set when a page is made.
 
 ghost use Rattle.std.specs.Prelude.{◌≡◌, ◌+◌, ◌≤◌, ℕ, nat_le, IsOk, IfOk, IfErr, OnOk, OnErr, List, [], ◌∷◌, ◌++◌, length, map, take};
 ghost use Rattle.std.specs.List.{AllPass};
@@ -30,32 +30,14 @@ pub struct Page {
 }
 
 impl Model for Page {
-    ghost use Rattle.std.specs.Prelude.{◌-◌, vec_len, vec_capacity};
-    ghost use Rattle.escpos_paper.specs.Page.{PageView, IsReached, room_for_items};
+    ghost use Rattle.escpos_paper.specs.Page.{PageView, IsReached};
+    ghost use Rattle.escpos_paper.specs.Steps.{page_on};
 
     ghost Value = { PageView };
 
-    ghost view = { λ p. record {
-      sheet = record {
-        line_dots = p.paper.line_width;
-        items = p.paper.items.items;
-        settings = p.paper.settings;
-        stored = p.paper.store.stored;
-        line = p.paper.line;
-      };
-      room = room_for_items p.paper.store.ready (vec_capacity p.paper.items - vec_len p.paper.items);
-    } };
+    ghost view = { λ p. page_on p.paper };
 
-    ghost invariant = { λ p. IsReached (record {
-      sheet = record {
-        line_dots = p.paper.line_width;
-        items = p.paper.items.items;
-        settings = p.paper.settings;
-        stored = p.paper.store.stored;
-        line = p.paper.line;
-      };
-      room = room_for_items p.paper.store.ready (vec_capacity p.paper.items - vec_len p.paper.items);
-    }) };
+    ghost invariant = { λ p. IsReached (page_on p.paper) };
 }
 
 impl Page {

@@ -14,7 +14,8 @@ use escpos_command::{
     magnified, size_height, size_width, underline_of_mode,
 };
 
-/// How a printer prints. Init (ESC @) puts all of it back.
+/// How a printer prints characters, barcodes, lines and QR codes, as commands have set it. Init (ESC @) restores the power-on value of
+/// all of it.
 #[derive(Clone, Copy, Debug, PartialEq, Eq)]
 pub struct Settings {
     pub text: Style,

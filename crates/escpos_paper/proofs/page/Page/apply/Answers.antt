@@ -23,7 +23,7 @@ invariant_of-self c = record {
   in_range = one_more c.self.invariant.commands c.args.command c.self.invariant.in_range c.in_range.ensures;
   page_is =
       sheet_step c.self.invariant.line_dots _ _ c.self.invariant.kept c.self.invariant.commands c.args.command
-      (sheet_made _ _ _ _ _ _ _ _ _ _ c.args.command c.carry_out.ensures.line_width c.carry_out.ensures.items c.carry_out.ensures.settings
+      (sheet_made c.carry_out.new.self _ _ _ _ _ c.carry_out.ensures.line_width c.carry_out.ensures.items c.carry_out.ensures.settings
       c.carry_out.ensures.stored c.carry_out.ensures.line)
       c.self.invariant.page_is;
 }
@@ -31,14 +31,14 @@ invariant_of-self c = record {
 pub returns-clause-taken : goal.returns-clause-taken
 returns-clause-taken c = λ width kept cs is.
     sheet_step width _ _ kept cs c.args.command
-    (sheet_made _ _ _ _ _ _ _ _ _ _ c.args.command c.carry_out.ensures.line_width c.carry_out.ensures.items c.carry_out.ensures.settings
+    (sheet_made c.carry_out.new.self _ _ _ _ _ c.carry_out.ensures.line_width c.carry_out.ensures.items c.carry_out.ensures.settings
     c.carry_out.ensures.stored c.carry_out.ensures.line)
     (ap (λ (page : PageView). page.sheet) c.self.view_is ∙ c.ready.ensures.same ∙ is)
 
 -- The same, below what was torn off.
 pub returns-clause-torn : goal.returns-clause-torn
 returns-clause-torn c = λ width gone cs is.
-    let step = sheet_made _ _ _ _ _ _ _ _ _ _ c.args.command c.carry_out.ensures.line_width c.carry_out.ensures.items c.carry_out.ensures.settings
+    let step = sheet_made c.carry_out.new.self _ _ _ _ _ c.carry_out.ensures.line_width c.carry_out.ensures.items c.carry_out.ensures.settings
     c.carry_out.ensures.stored c.carry_out.ensures.line in
     sheet_step width (below gone _) (below gone _) [] cs c.args.command (ap (below gone) step ∙ step_below gone _ c.args.command)
     (ap (below gone) (ap (λ (page : PageView). page.sheet) c.self.view_is ∙ c.ready.ensures.same) ∙ is)
