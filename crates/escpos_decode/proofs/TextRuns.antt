@@ -30,6 +30,13 @@ text_place cs text at place inside e =
     let front = ap length (spelled (take at text)) in
     omega (arith, e, split, front, length-append (spell cs) (spell (map Char (take at text))), length-take at text)
 
+-- As many of them as are taken are read, and leave the decoder between commands.
+pub text_on : (bytes half : List ℕ) (most : ℕ) → AllPass is_character (take most bytes) → half ≡ []
+    → (n : ℕ) (a : List ℕ) (cs : List Command) → n ≤ most → Reads a cs half → Reads (a ++ take n bytes) (cs ++ map Char (take n bytes)) half
+text_on bytes half most printing none n a cs few read =
+    let passes = subst (AllPass is_character) (take-take n most bytes few) (All-take (λ x. IsTrue (is_character x)) n (take most bytes) printing) in
+    subst (Reads (a ++ take n bytes) (cs ++ map Char (take n bytes))) (sym none) (text_read a (take n bytes) cs passes (subst (Reads a cs) none read))
+
 -- ## The loop over a piece
 
 text_after : (a piece : List ℕ) (at n : ℕ) → (a ++ take at piece) ++ take n (drop at piece) ≡ a ++ take (at + n) piece

@@ -4,7 +4,7 @@
 //! the dots read so far, and how many bytes of them are still to come. The half command that contracts speak of is computed
 //! from these; it isn't kept.
 
-ghost use Rattle.std.specs.Prelude.{ℕ, List, ◌≡◌, ◌<◌, ◌≤◌, [], ◌∷◌, ◌++◌, length, take, IsTrue, IfSome, Ok, Err};
+ghost use Rattle.std.specs.Prelude.{ℕ, List, ◌≡◌, ◌<◌, ◌≤◌, [], ◌∷◌, ◌++◌, length, map, take, IsTrue, IfSome, Ok, Err};
 ghost use Rattle.std.specs.List.{AllPass};
 ghost use Rattle.escpos_command.specs.Parameters.{is_character};
 ghost use Rattle.escpos_command.specs.declared.command.Command.{Command};
@@ -160,16 +160,16 @@ impl Decoder {
     /// How many characters stand at the start of `bytes`, if the decoder is between commands; otherwise 0. They need not be
     /// pushed: they leave the decoder as it is. Most bytes of a receipt are characters, for which the table isn't needed.
     #[inline]
-    pub(crate) fn characters(&self, bytes: &[u8]) -> usize
+    pub fn characters(&self, bytes: &[u8]) -> usize
         ensures count { result ≤ length bytes.now }
         ensures characters { AllPass is_character (take result bytes.now) }
         ensures between { 1 ≤ result → self.now ≡ [] }
+        // Whatever bytes of a stream came before, it is read on by as many of these characters as are taken.
+        ensures stream { (n : ℕ) (a : List ℕ) (cs : List Command) → n ≤ result → Reads a cs self.now →
+            Reads (a ++ take n bytes.now) (cs ++ map Char (take n bytes.now)) self.now }
     {
         match self.state {
-            State::Start => match bytes.iter().position(|byte| !is_character(*byte)) {
-                Some(count) => count,
-                None => bytes.len(),
-            },
+            State::Start => leading_characters(bytes),
             _ => 0,
         }
     }
@@ -292,6 +292,18 @@ impl Decoder {
     {
         self.state = State::Start;
         self.content = Vec::new(self.alloc);
+    }
+}
+
+// How many characters stand at the start of `bytes`.
+#[inline]
+fn leading_characters(bytes: &[u8]) -> usize
+    ensures count { result ≤ length bytes.now }
+    ensures characters { AllPass is_character (take result bytes.now) }
+{
+    match bytes.iter().position(|byte| !is_character(*byte)) {
+        Some(count) => count,
+        None => bytes.len(),
     }
 }
 
