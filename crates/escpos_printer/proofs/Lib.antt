@@ -1,5 +1,6 @@
 pub mod OneBlock
 pub mod Taking
+pub mod TextTaken
 pub mod AnswerBytes
 pub mod Fitting
 pub mod Changes

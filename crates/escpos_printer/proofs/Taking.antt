@@ -111,7 +111,7 @@ fewer n h k = grind (arith, nat_tests)
 some_is : (a b : FeedStop) → Some a ≡ Some b → a ≡ b
 some_is a b e = cc
 
-online : (condition : Condition) → is_offline condition ≡ false → IsTrue (is_offline condition) → ⊥
+pub online : (condition : Condition) → is_offline condition ≡ false → IsTrue (is_offline condition) → ⊥
 online condition e off = let h = sym e ∙ off in absurd cc
 
 -- ## A byte that isn't taken
@@ -308,15 +308,20 @@ TookSome p bytes q = (cs : List Command) × Took p bytes cs q
 pub some_on : JoinLaw → (p m q : PrinterView) (x y : List ℕ) → TookSome p x m → TookSome m y q → TookSome p (x ++ y) q
 some_on join p m q x y t u = (t.0 ++ u.0, took_on join p m q x y t.0 u.0 t.1 u.1)
 
--- One more byte of a piece, and a run after it.
-pub one_and_run : JoinLaw → (p m q r : PrinterView) (piece : List ℕ) (k n most : ℕ) → k < length piece → n ≤ most → TookSome p (take k piece) m
-    → TookSome m (slice_index piece k ∷ []) q → TookSome q (take n (take most (drop (k + 1) piece))) r → TookSome p (take (k + 1 + n) piece) r
-one_and_run join p m q r piece k n most h few t u v =
-    let one : take k piece ++ slice_index piece k ∷ [] ≡ take (k + 1) piece = sym (rw (add-one, take-suc piece k 0) refl) in
-    let front = subst (λ w. TookSome p w q) one (some_on join p m q (take k piece) (slice_index piece k ∷ []) t u) in
-    let run = subst (λ w. TookSome q w r) (take-take n most (drop (k + 1) piece) few) v in
-    subst (λ w. TookSome p w r) (sym (take-add (k + 1) n piece)) (some_on join p q r (take (k + 1) piece) (take n (drop (k + 1) piece)) front run)
+-- One more byte of a piece.
+pub one_more : JoinLaw → (p m q : PrinterView) (piece : List ℕ) (at : ℕ) → at < length piece → TookSome p (take at piece) m → TookSome m (slice_index piece at ∷ []) q
+    → TookSome p (take (at + 1) piece) q
+one_more join p m q piece at h t u =
+    let one : take at piece ++ slice_index piece at ∷ [] ≡ take (at + 1) piece = sym (rw (add-one, take-suc piece at 0) refl) in
+    subst (λ w. TookSome p w q) one (some_on join p m q (take at piece) (slice_index piece at ∷ []) t u)
+
+-- A run more of a piece.
+pub run_more : JoinLaw → (p m q : PrinterView) (piece : List ℕ) (at n most : ℕ) → n ≤ most → TookSome p (take at piece) m → TookSome m (take n (take most (drop at piece))) q
+    → TookSome p (take (at + n) piece) q
+run_more join p m q piece at n most few t u =
+    let run = subst (λ w. TookSome m w q) (take-take n most (drop at piece) few) u in
+    subst (λ w. TookSome p w q) (sym (take-add at n piece)) (some_on join p m q (take at piece) (take n (drop at piece)) t run)
 
 -- The run is within the piece.
-pub run_within : (piece : List ℕ) (k n : ℕ) → k < length piece → n ≤ length (take (length piece - (k + 1)) (drop (k + 1) piece)) → n ≤ length piece - (k + 1)
-run_within piece k n h few = let short = length-take (length piece - (k + 1)) (drop (k + 1) piece) in omega arith
+pub run_within : (piece : List ℕ) (at n : ℕ) → n ≤ length (take (length piece - at) (drop at piece)) → n ≤ length piece - at
+run_within piece at n few = let short = length-take (length piece - at) (drop at piece) in omega arith

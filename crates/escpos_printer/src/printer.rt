@@ -2,10 +2,14 @@
 //!
 //! Everything that changes a printer is in this module. A byte is examined before it is taken: what it would complete
 //! decides whether it may be taken now, and room on the page is made for that command. So a byte that isn't taken changes
-//! nothing, except that a fault drops the half command.
+//! nothing, except that a fault drops the half command. Runs of characters and of dots need no such look at each byte, and are
+//! taken together.
 
-ghost use Rattle.std.specs.Prelude.{◌≡◌, ◌≤◌, ◌<◌, ◌+◌, ℕ, List, [], ◌∷◌, ◌++◌, length, take, drop, slice_get, not, true, false, IfOk, OnOk, OnErr, IfErr, IsOk};
+ghost use Rattle.std.specs.Prelude.{◌≡◌, ◌≤◌, ◌<◌, ◌+◌, ℕ, List, [], ◌∷◌, ◌++◌, length, map, take, drop, slice_get, not, true, false, IfOk, OnOk, OnErr, IfErr, IsOk};
+ghost use Rattle.std.specs.List.{AllPass};
 ghost use Rattle.escpos_command.specs.declared.command.Command.{Command};
+ghost use Rattle.escpos_command.specs.declared.command.Command.TheVariants.{Char};
+ghost use Rattle.escpos_command.specs.Parameters.{is_character};
 ghost use Rattle.escpos_command.specs.Answers.{spell_answers};
 ghost use Rattle.escpos_command.specs.Laws.{longest_spelling};
 ghost use Rattle.escpos_decode.specs.Push.{IsRest};
@@ -114,15 +118,14 @@ impl Printer {
     pub fn feed(&mut self, piece: &[u8]) -> Fed
         ensures { Feeds self.old piece.now result.consumed result.stop self.new }
     {
-        // Proof only: the half command is nothing or the start of a spelling, and no more answers wait than may.
-        self.is_sound();
-        let mut consumed = 0;
+        let mut consumed = self.feed_text(piece);
         while consumed < piece.len() {
             if let Err(stop) = self.feed_byte(piece[consumed], consumed) {
                 return Fed { consumed, stop };
             }
             consumed += 1;
             consumed += self.feed_dots(&piece[consumed..]);
+            consumed += self.feed_text(&piece[consumed..]);
         }
         Fed {
             consumed,
@@ -162,6 +165,19 @@ impl Printer {
         ensures taken { Took self.old (take result bytes.now) [] self.new }
     {
         self.decoder.push_dots(bytes)
+    }
+
+    // Takes the characters at the start of `bytes`, and returns how many it took: none where the printer is offline, and
+    // not all of them where an allocation failed.
+    fn feed_text(&mut self, bytes: &[u8]) -> usize
+        ensures count { result ≤ length bytes.now }
+        ensures taken { Took self.old (take result bytes.now) (map Char (take result bytes.now)) self.new }
+    {
+        if self.condition.is_offline() {
+            return 0;
+        }
+        let count = self.decoder.characters(bytes);
+        print_text(&mut self.page, &bytes[..count])
     }
 
     // Proof only: gives the caller these facts: the printer holds nothing or a half command, and no more answers wait than may.
@@ -282,6 +298,23 @@ impl Printer {
     {
         self.decoder.pending_len()
     }
+}
+
+// Prints characters on the page, and returns how many: not all of them where an allocation failed.
+fn print_text(page: &mut Page, text: &[u8]) -> usize
+    requires characters { AllPass is_character text.now }
+    ensures count { result ≤ length text.now }
+    ensures printed { (width : ℕ) (kept : List Item) (cs : List Command) → SheetIs width page.old.sheet kept cs →
+        SheetIs width page.new.sheet kept (cs ++ map Char (take result text.now)) }
+{
+    let mut printed = 0;
+    while printed < text.len() {
+        match page.apply_text(&text[printed..]) {
+            Ok(count) => printed += count,
+            Err(AllocError) => return printed,
+        }
+    }
+    printed
 }
 
 // Makes room on the page if a command is about to be completed.
