@@ -3,3 +3,4 @@
 mod link;
 mod pieces;
 mod rows;
+mod texts;

@@ -300,6 +300,19 @@ fn feed_refused(rt: HostRuntime) {
     assert!(&rt; printer.pending_len() == 0);
 }
 
+// Text of three lines, two of which are full.
+const TEXT: &[u8] =
+    b"xxxxxxxxxxxxxxxxxxxxxxxxxxxxxxxxxxxxxxxxxxxxxxxxxxxxxxxxxxxxxxxxxxxxxxxxxxxxxxxxxxxxxxxx";
+
+#[test]
+fn feed_of_text_refused(rt: HostRuntime) {
+    let mut printer = printer_at_last(&rt, rt.alloc());
+    feeds(&rt, &mut printer, TEXT);
+    prints_items(&rt, printer.items(), TWO_LINES);
+    feeds(&rt, &mut printer, TEXT);
+    assert!(&rt; printer.items().len() == 8);
+}
+
 // A store, a print, a line and two prints more.
 const QR_STREAM: &[u8] =
     b"\x1D(k\x05\x001P0AB\x1D(k\x03\x001Q0Hi\x1D(k\x03\x001Q0\x1D(k\x03\x001Q0";
