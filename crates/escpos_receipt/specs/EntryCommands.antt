@@ -13,9 +13,7 @@ use Rattle.escpos_receipt.specs.declared.entry.Entry.TheVariants as entry
 use Rattle.escpos_receipt.specs.declared.entry.Meaning.{Meaning}
 use Rattle.escpos_receipt.specs.declared.entry.Meaning.TheVariants as means
 use Rattle.escpos_receipt.specs.Entries.{chosen_by, names_tables, qr_commands}
-use Rattle.escpos_paper.specs.Styles.{set_after}
-use Rattle.escpos_paper.specs.Styles.{sets_character_set, sets_font, sets_table, sets_width}
-use Rattle.escpos_command.specs.declared.parameter.choices.FontFace.TheVariants.{A}
+use Rattle.escpos_paper.specs.Styles.{power_on, set_after, sets_character_set, sets_font, sets_table, sets_width}
 use Rattle.escpos_command.specs.Text.{characters, ends_text}
 use Rattle.escpos_text.specs.Choices.{usual_tables}
 use Rattle.escpos_receipt.specs.declared.in_force.InForce.{InForce}
@@ -41,8 +39,8 @@ value_after sets start value (c ∷ cs) = value_after sets start (set_after sets
 -- The encoding in force after these commands.
 abbrev pub with_commands : Encoding → List Command → Encoding
 with_commands e cs = record {
-  set = value_after sets_character_set 0 e.set cs;
-  table = value_after sets_table 0 e.table cs;
+  set = value_after sets_character_set power_on.character_set e.set cs;
+  table = value_after sets_table power_on.table e.table cs;
   choice = e.choice;
   replacement = e.replacement;
 }
@@ -73,8 +71,8 @@ stored_after stored c = stored
 abbrev pub line_step : LineState → Command → LineState
 line_step l c = record {
   width = l.width;
-  font = set_after sets_font A l.font c;
-  times = set_after sets_width 1 l.times c;
+  font = set_after sets_font power_on.font l.font c;
+  times = set_after sets_width power_on.width l.times c;
   in_line = is_nonempty (characters c) || l.in_line && not (ends_where l.stored c);
   stored = stored_after l.stored c;
 }
@@ -94,8 +92,8 @@ force_after_member f m v cs = record { encoding = after_member f.encoding m v cs
 -- What is in force at the beginning.
 abbrev pub start_of : ℕ → Option ℕ → InForce
 start_of width replacement = record {
-  encoding = record { set = 0; table = 0; choice = usual_tables; replacement = replacement };
-  line = record { width = width; font = A; times = 1; in_line = false; stored = false };
+  encoding = record { set = power_on.character_set; table = power_on.table; choice = usual_tables; replacement = replacement };
+  line = record { width = width; font = power_on.font; times = power_on.width; in_line = false; stored = false };
 }
 
 -- The text is this value in JSON.

@@ -13,7 +13,7 @@ ghost use Rattle.escpos_receipt.specs.Printable.{IsFirstLeftOut, IsPrintable, co
 use crate::entry::Entry;
 use escpos_barcode::{qr_modules, runs};
 use escpos_command::{Bars, Command, Correction, LineWidth, QrData, SettingKind};
-use escpos_paper::added_digit;
+use escpos_paper::{Settings, added_digit};
 
 // The settings that say how large barcodes and QR codes are, with the data that is stored for QR codes.
 #[derive(Clone, Copy)]
@@ -29,10 +29,11 @@ impl<'a> Codes<'a> {
     fn power_on() -> Self
         ensures { kept result ≡ code_settings [] }
     {
+        let settings = Settings::power_on();
         Codes {
-            module_width: 3,
-            size: 3,
-            correction: Correction::L,
+            module_width: settings.bars.module_width,
+            size: settings.codes.size,
+            correction: settings.codes.correction,
             stored: None,
         }
     }

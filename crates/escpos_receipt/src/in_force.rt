@@ -11,6 +11,7 @@ use escpos_command::{
     size_width,
 };
 use escpos_layout::Columns;
+use escpos_paper::Style;
 use escpos_text::{Encoding, Replacement};
 
 /// What is in force.
@@ -44,12 +45,13 @@ impl InForce {
     {
         let mut encoding = Encoding::new();
         encoding.replacement = replacement;
+        let style = Style::power_on();
         InForce {
             encoding,
             line: LineState {
                 width,
-                font: FontFace::A,
-                times: 1,
+                font: style.font,
+                times: style.width,
                 in_line: false,
                 stored: false,
             },
@@ -74,8 +76,9 @@ impl LineState {
             Command::Set(setting) => self.set(setting.kind(), setting.parameter()),
             Command::QrStore(_) => self.stored = true,
             Command::Init => {
-                self.font = FontFace::A;
-                self.times = 1;
+                let style = Style::power_on();
+                self.font = style.font;
+                self.times = style.width;
                 self.stored = false;
             }
             _ => {}
