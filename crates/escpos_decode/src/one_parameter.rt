@@ -24,9 +24,9 @@ impl OneParameter {
         ensures { SomeIff result (IsTrue (parameter_allows self byte)) (parameter_command self byte) }
     {
         match self {
-            OneParameter::FeedUnits => FeedUnits::new(byte).map(Command::FeedUnits),
-            OneParameter::FeedLines => FeedLines::new(byte).map(Command::FeedLines),
-            OneParameter::AutomaticStatus => Reporting::new(byte).map(Command::AutomaticStatus),
+            OneParameter::FeedUnits => Some(Command::FeedUnits(FeedUnits::new(byte))),
+            OneParameter::FeedLines => Some(Command::FeedLines(FeedLines::new(byte))),
+            OneParameter::AutomaticStatus => Some(Command::AutomaticStatus(Reporting::new(byte))),
             OneParameter::Status => StatusKind::new(byte).map(Command::Status),
             OneParameter::QrSize => QrSize::new(byte).map(Command::QrSize),
             OneParameter::QrLevel => QrLevel::new(byte).map(Command::QrLevel),

@@ -99,7 +99,7 @@ fn are_feeds(rt: &impl Abort, text: &[u8]) {
 // More text than is put together at once.
 #[test]
 fn long_paper(rt: HostRuntime) {
-    let feed = FeedLines::new(255).expect(&rt, "feed");
+    let feed = FeedLines::new(255);
     let mut page = Page::new(rt.alloc(), LineWidth::usual());
     for _ in 0..100_000 {
         apply(&rt, &mut page, Command::FeedLines(feed));

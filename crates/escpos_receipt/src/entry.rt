@@ -267,8 +267,8 @@ fn short_command_of(member: Member, value: &Value) -> Option<Command>
     ensures { result ≡ command_of member (view value.now) }
 {
     Some(match member {
-        Member::Feed => Command::FeedLines(FeedLines::new(byte_in(value, 0, 255)?)?),
-        Member::Units => Command::FeedUnits(FeedUnits::new(byte_in(value, 0, 255)?)?),
+        Member::Feed => Command::FeedLines(FeedLines::new(byte_in(value, 0, 255)?)),
+        Member::Units => Command::FeedUnits(FeedUnits::new(byte_in(value, 0, 255)?)),
         Member::Spacing => spacing_in(value)?,
         Member::Pulse => Command::Pulse(pulse_in(value)?),
         Member::Mode => Command::set(SettingKind::Mode, byte_in(value, 0, 255)?)?,

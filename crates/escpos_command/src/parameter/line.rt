@@ -24,11 +24,11 @@ impl Model for FeedLines {
 }
 
 impl FeedLines {
-    /// The feed of this many lines. Every byte is one.
-    pub fn new(byte: u8) -> Option<Self>
-        ensures { SomeIff result (IsTrue (is_byte byte)) byte }
+    /// The feed of this many lines.
+    pub fn new(byte: u8) -> Self
+        ensures { result ≡ byte }
     {
-        Some(FeedLines { byte })
+        FeedLines { byte }
     }
 
     /// The number of lines, 0 to 255.
@@ -57,11 +57,11 @@ impl Model for FeedUnits {
 }
 
 impl FeedUnits {
-    /// The feed of this many motion units. Every byte is one.
-    pub fn new(byte: u8) -> Option<Self>
-        ensures { SomeIff result (IsTrue (is_byte byte)) byte }
+    /// The feed of this many motion units.
+    pub fn new(byte: u8) -> Self
+        ensures { result ≡ byte }
     {
-        Some(FeedUnits { byte })
+        FeedUnits { byte }
     }
 
     /// The number of motion units, 0 to 255.
@@ -233,11 +233,11 @@ impl Reporting {
         Reporting { byte: 0x0E }
     }
 
-    /// The setting of this byte. Every byte is one.
-    pub fn new(byte: u8) -> Option<Self>
-        ensures { SomeIff result (IsTrue (is_byte byte)) byte }
+    /// The setting of this byte.
+    pub fn new(byte: u8) -> Self
+        ensures { result ≡ byte }
     {
-        Some(Reporting { byte })
+        Reporting { byte }
     }
 
     /// The byte as sent.

@@ -119,7 +119,7 @@ fn blocks_of_automatic_status(rt: HostRuntime) {
 fn reporting(rt: HostRuntime) {
     assert!(rt; !Reporting::off().is_on());
     for (byte, is_on) in [(0x00, false), (0x01, true), (0x0E, true), (0x80, true)] {
-        let reporting = Reporting::new(byte).expect(&rt, "reporting");
+        let reporting = Reporting::new(byte);
         assert!(rt; reporting.is_on() == is_on);
         spell(
             &rt,
@@ -188,7 +188,7 @@ fn small_pieces_go_out_in_order(rt: HostRuntime) {
     let mut commands = Vec::new(rt.alloc());
     let mut want = Vec::new(rt.alloc());
     for number in 0..=255u8 {
-        let feed = FeedLines::new(number).expect(&rt, "feed");
+        let feed = FeedLines::new(number);
         for _ in 0..9 {
             commands
                 .push(Command::FeedLines(feed))

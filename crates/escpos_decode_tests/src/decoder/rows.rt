@@ -157,7 +157,7 @@ fn cut_feed(rt: HostRuntime) {
 fn units_and_pulse(rt: HostRuntime) {
     let bytes = [0x41, 0x1B, 0x4A, 0x05, 0x1B, 0x70, 0x00, 0x19, 0xFA];
     let a = Character::new(0x41).expect(&rt, "A");
-    let units = FeedUnits::new(5).expect(&rt, "units");
+    let units = FeedUnits::new(5);
     let pulse = Pulse::new(0, 0x19, 0xFA).expect(&rt, "pulse");
     let commands = [
         Command::Char(a),
@@ -189,8 +189,8 @@ fn switches(rt: HostRuntime) {
 #[test]
 fn automatic_status(rt: HostRuntime) {
     let bytes = [0x1D, 0x61, 0x00, 0x1D, 0x61, 0xFF];
-    let off = Reporting::new(0x00).expect(&rt, "reporting");
-    let on = Reporting::new(0xFF).expect(&rt, "reporting");
+    let off = Reporting::new(0x00);
+    let on = Reporting::new(0xFF);
     let commands = [Command::AutomaticStatus(off), Command::AutomaticStatus(on)];
     let end = End::Read { half: 0 };
     decodes(&rt, rt.alloc(), &[&bytes], &commands, end);
