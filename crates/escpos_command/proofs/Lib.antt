@@ -10,9 +10,8 @@ pub mod SettingFacts
 pub mod TableTree
 pub mod Readings
 pub mod Profiles
-pub mod SecondProfile
-pub mod ThirdProfile
-pub mod FirstProfile
+pub mod EarlierProfiles
+pub mod TallRasters
 pub mod Fours
 pub mod Copied
 pub mod Resynchronisation

@@ -13,11 +13,11 @@ use Rattle.escpos_command.proofs.Combinators.{and_left, and_right, same_number, 
 test_turned : (b c : ℕ) → (c == b) ≡ true → (b == c) ≡ true
 test_turned b c h = subst (λ x. (b == x) ≡ true) (sym (same_number c b h)) (number_itself b)
 
-or_else : (a b : Bool) → a ≡ true → (not a || b) ≡ true → b ≡ true
+pub or_else : (a b : Bool) → a ≡ true → (not a || b) ≡ true → b ≡ true
 or_else true b e h = h
 or_else false b e h = absurd cc
 
-or_right : (a b : Bool) → a ≡ false → (a || b) ≡ true → b ≡ true
+pub or_right : (a b : Bool) → a ≡ false → (a || b) ≡ true → b ≡ true
 or_right true b e h = absurd cc
 or_right false b e h = h
 

@@ -64,15 +64,6 @@ pub same_leaf : (d : Command) (w : List ℕ) (c : Command) → walk (leaf d) w �
 same_leaf d [] c e = cc
 same_leaf d (b ∷ w) c e = absurd cc
 
--- Below a letter whose command the profile lacks there is none of its commands.
-pub leaf_below : (has : Command → Bool) (d : Command) → has d ≡ false → (w : List ℕ) (c : Command) → walk (leaf d) w ≡ leaf c → has c ≡ false
-leaf_below has d h w c e = ap has (same_leaf d w c e) ∙ h
-
-pub one_below : (has : Command → Bool) (test : ℕ → Bool) (make : ℕ → Command) → ((n : ℕ) → has (make n) ≡ false)
-    → (w : List ℕ) (c : Command) → walk (one test make) w ≡ leaf c → has c ≡ false
-one_below has test make h [] c e = absurd cc
-one_below has test make h (n ∷ w) c e = leaf_below has (make n) (h n) w c (chosen (test n) (leaf (make n)) w c e)
-
 -- Counted bytes make one command of all of them.
 pub counted_below : (n : ℕ) (test : ℕ → ℕ → Bool) (make : List ℕ → Command) (read w : List ℕ) (c : Command) → walk (counted n test make read) w ≡ leaf c → (xs : List ℕ) × (c ≡ make xs)
 unfolding counted
@@ -81,71 +72,21 @@ counted_below (suc n) test make read [] c e = absurd cc
 counted_below (suc n) test make read (b ∷ w) c e =
     counted_below n test make (read ++ b ∷ []) w c (chosen (test (length read) b) (counted n test make (read ++ b ∷ [])) w c e)
 
--- Below these bytes there is what is below the tree after them.
-pub these_below : (has : Command → Bool) (bs : List ℕ) (t : Tree) → ((w : List ℕ) (c : Command) → walk t w ≡ leaf c → has c ≡ false)
-    → (w : List ℕ) (c : Command) → walk (these bs t) w ≡ leaf c → has c ≡ false
-these_below has [] t below w c e = below w c e
-these_below has (b ∷ bs) t below [] c e = absurd cc
-these_below has (b ∷ bs) t below (x ∷ w) c e = these_below has bs t below w c (chosen (x == b) (these bs t) w c e)
-
-pub passing_below : (has : Command → Bool) (test : ℕ → Bool) (next : ℕ → Tree) → ((b : ℕ) (w : List ℕ) (c : Command) → walk (next b) w ≡ leaf c → has c ≡ false)
-    → (w : List ℕ) (c : Command) → walk (passing test next) w ≡ leaf c → has c ≡ false
-passing_below has test next below [] c e = absurd cc
-passing_below has test next below (b ∷ w) c e = below b w c (chosen (test b) (next b) w c e)
-
--- Where no tree of a table has one of the profile's commands, the table has none.
-pub branch_below : (has : Command → Bool) (entries : List (ℕ × Tree)) → AllByRecursion (λ entry. (w : List ℕ) (c : Command) → walk entry.1 w ≡ leaf c → has c ≡ false) entries
-    → (b : ℕ) (w : List ℕ) (c : Command) → walk (branch entries none b) w ≡ leaf c → has c ≡ false
-branch_below has [] all b w c e = absurd cc
-branch_below has (entry ∷ entries) all b w c e =
-    elim (b == entry.0) as (λ v. walk (cond v entry.1 (branch entries none b)) w ≡ leaf c → has c ≡ false) [
-      | true ↦ λ k. all.0 w c k
-      | false ↦ λ k. branch_below has entries all.1 b w c k
-    ] e
-
 not_in : (has : Command → Bool) (c : Command) → has c ≡ false → IsTrue (has c) → ⊥
 not_in has c h k = let clash : true ≡ false = sym k ∙ h in cc
 
 pub none_below : (has : Command → Bool) (bs : List ℕ) → ((w : List ℕ) (c : Command) → walk grammar (bs ++ w) ≡ leaf c → has c ≡ false) → ViableIn has bs → ⊥
 none_below has bs below v = not_in has v.0 (below v.1 v.0 (leads_spelling v.0 (bs ++ v.1) v.2.1)) v.2.0
 
--- Below the prefix of a form there is what is below its tree.
-pub form_below : (has : Command → Bool) (q : List ℕ) → has_form q forms ≡ true → ((w : List ℕ) (c : Command) → walk (tree_after q forms) w ≡ leaf c → has c ≡ false)
-    → (w : List ℕ) (c : Command) → walk grammar (q ++ w) ≡ leaf c → has c ≡ false
-form_below has q there none w c e = none w c (sym (form q w there) ∙ e)
-
--- Below that of a setting there are settings of its kind.
-made_by : (b : Bool) (r : Row) (w : List ℕ) (c : Command)
-    → walk (cond b (leaf (kind.Set (r.kind, None))) (one (may_follow r.values) (λ n. kind.Set (r.kind, Some n)))) w ≡ leaf c → (p : Option ℕ) × (c ≡ kind.Set (r.kind, p))
-made_by true r w c e = (None, same_leaf (kind.Set (r.kind, None)) w c e)
-made_by false r [] c e = absurd cc
-made_by false r (n ∷ w) c e =
-    (Some n, same_leaf (kind.Set (r.kind, Some n)) w c (chosen (may_follow r.values n) (leaf (kind.Set (r.kind, Some n))) w c e))
-
-setting_below : (has : Command → Bool) (which : SettingKind) → ((p : Option ℕ) → has (kind.Set (which, p)) ≡ false)
-    → (w : List ℕ) (c : Command) → walk grammar (row_prefix (row_for table which) ++ w) ≡ leaf c → has c ≡ false
-setting_below has which lacks w c e =
-    let r = row_for table which in
-    let made = made_by (is_nothing r.values) r w c (sym (setting which w) ∙ e) in
-    ap has (made.1 ∙ ap (λ k. kind.Set (k, made.0)) (own_kind table which is_table)) ∙ lacks made.0
-
-pub no_setting_in : (has : Command → Bool) (which : SettingKind) → ((p : Option ℕ) → has (kind.Set (which, p)) ≡ false) → ViableIn has (row_prefix (row_for table which)) → ⊥
-no_setting_in has which lacks = none_below has (row_prefix (row_for table which)) (setting_below has which lacks)
-
 -- Some setting of each kind is spelled.
-some_parameter : Values → Option ℕ
+unfoldable pub some_parameter : Values → Option ℕ
 some_parameter values.Nothing = None
 some_parameter v = Some (some_value v)
 
-some_fits : (v : Values) → fits v (some_parameter v) ≡ true
+pub some_fits : (v : Values) → fits v (some_parameter v) ≡ true
 unfolding some_parameter
 some_fits values.Nothing = refl
 some_fits _ = refl
-
-pub setting_viable : (which : SettingKind) → Viable (row_prefix (row_for table which))
-setting_viable which =
-    let p = some_parameter (row_for table which).values in
-    (kind.Set (which, p), option_to_list p, subst (λ bs. Spells (kind.Set (which, p)) bs) (spelled_setting which p) (at_row (kind.Set (which, p)) (some_fits (row_for table which).values)))
 
 pub shorter : (has : Command → Bool) (p q : List ℕ) → ViableIn has (p ++ q) → ViableIn has p
 shorter has p q v = (v.0, q ++ v.1, (v.2.0, subst (λ xs. Spells v.0 xs) (append_assoc p q v.1) v.2.1))

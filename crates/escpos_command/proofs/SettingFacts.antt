@@ -1,8 +1,7 @@
 -- What the program's table of settings meets, by computing. No kind is named, but one to split the cases.
 use Rattle.std.proofs.Common.{◌≡◌, ℕ, length, true, refl, Option, None, Some}
-use Rattle.std.specs.Prelude.{◌==◌, ◌||◌, nat_lt}
+use Rattle.std.specs.Prelude.{◌==◌, ◌&&◌, not, nat_le, nat_lt}
 use Rattle.std.specs.List.{list_all}
-use Rattle.escpos_command.specs.declared.bytes.TheConstants.{ESC, GS}
 use Rattle.escpos_command.specs.declared.setting.SettingKind.{SettingKind}
 use Rattle.escpos_command.specs.declared.setting.SettingKind.TheVariants as sets
 use Rattle.escpos_command.specs.SettingTable.{number, table, row_for, row_prefix, is_setting}
@@ -18,10 +17,10 @@ pub is_table : IsTable table
 unfolding table
 is_table = record { in_order = refl; covers = covers; one_prefix = refl; beside_forms = refl; low = refl }
 
--- Each prefix begins with ESC or GS.
-pub two_first : list_all (λ r. r.first == ESC || r.first == GS) table ≡ true
+-- Each prefix begins with a byte from 9 on but DC4, which no real-time command has after its first byte.
+pub firsts : list_all (λ r. nat_le 9 r.first && not (r.first == 20)) table ≡ true
 unfolding table
-two_first = refl
+firsts = refl
 
 -- ## It is that of the Reference
 

@@ -1,7 +1,7 @@
 -- Facts about any table of settings. None names a kind.
-use Rattle.std.proofs.Common.{◌≡◌, ℕ, zero, suc, ◌+◌, ◌<◌, List, [], ◌∷◌, ◌++◌, length, get_or, arith, Bool, true, false, cond, Option, None, Some, refl, sym, ◌∙◌, ap}
+use Rattle.std.proofs.Common.{◌≡◌, ℕ, zero, suc, ◌+◌, ◌<◌, List, [], ◌∷◌, ◌++◌, length, get_or, arith, Bool, true, false, cond, Option, None, Some, refl, sym, ◌∙◌, ap, subst, append-nil}
 use Rattle.std.specs.Prelude.{◌==◌, ◌&&◌, nat_lt, option_to_list}
-use Rattle.std.specs.List.{list_all}
+use Rattle.std.specs.List.{list_all, list_any}
 use Rattle.std.proofs.lemmas.Bool.Decides.{nat_tests}
 use denote.Enum.Bare.{tag_one}
 use Rattle.escpos_command.specs.contracts.setting.SettingKind.{the_type}
@@ -16,7 +16,7 @@ use Rattle.escpos_command.specs.Prefixes.{apart, part_from, rows_part_from}
 use Rattle.escpos_command.specs.Tree.{Tree, leaf, walk, one, forms, setting_tree, settings}
 use Rattle.escpos_command.proofs.Walks.{IsLive, Good}
 use Rattle.escpos_command.proofs.Combinators.{and_left, and_right, same_number, good_choice, good_one, walk-one}
-use Rattle.escpos_command.proofs.Planting.{planted_there, planted_elsewhere, good_planted}
+use Rattle.escpos_command.proofs.Planting.{or_right, planted_there, planted_elsewhere, good_planted}
 
 -- ## What is asked of a table
 
@@ -64,6 +64,24 @@ own_kind rows which one = tag_one the_type tt (row_for rows which).kind which (o
 
 pub own_row : (rows : List Row) (i : ℕ) → IsTable rows → i < length rows → row_for rows (row_at rows i).kind ≡ row_at rows i
 own_row rows i one h = ap (row_at rows) (own_number rows i one h)
+
+at_some : (rows : List Row) (test : Row → Bool) → list_any test rows ≡ true → (i : ℕ) × (i < length rows) × (test (row_at rows i) ≡ true)
+at_some [] test h = absurd cc
+at_some (r ∷ rows) test h = by_test (test r) refl (λ k. at_some rows test k)
+  where
+    by_test : (v : Bool) → test r ≡ v → (list_any test rows ≡ true → (i : ℕ) × (i < length rows) × (test (row_at rows i) ≡ true))
+        → (i : ℕ) × (i < length (r ∷ rows)) × (test (row_at (r ∷ rows) i) ≡ true)
+    by_test true e further = (0, omega arith, e)
+    by_test false e further =
+        let later = further (or_right (test r) (list_any test rows) e h) in
+        let inside : later.0 < length rows = later.1 in
+        (suc later.0, omega arith, later.2)
+
+-- Where some row passes a test, it is that of a kind.
+pub some_kind : (rows : List Row) → IsTable rows → (test : Row → Bool) → list_any test rows ≡ true → (which : SettingKind) × (test (row_for rows which) ≡ true)
+some_kind rows one test h =
+    let found = at_some rows test h in
+    ((row_at rows found.0).kind, ap test (own_row rows found.0 one found.1) ∙ found.2)
 
 -- ## Where a prefix leads
 
@@ -121,7 +139,7 @@ live_by : (b : Bool) (t u : Tree) → IsLive t → IsLive u → IsLive (cond b t
 live_by true t u l m = l
 live_by false t u l m = m
 
-live_setting : (r : Row) → IsLive (setting_tree r)
+pub live_setting : (r : Row) → IsLive (setting_tree r)
 live_setting r = live_by (is_nothing r.values) (leaf (kind.Set (r.kind, None))) (one (may_follow r.values) (λ n. kind.Set (r.kind, Some n))) tt tt
 
 -- The row spells its settings.
@@ -131,7 +149,7 @@ SpellsSettings r = (p : Option ℕ) → fits r.values p ≡ true → Spells (kin
 good_setting : (r : Row) → SpellsSettings r → Good (row_prefix r) (setting_tree r)
 good_setting r spells =
     good_choice (row_prefix r) (leaf (kind.Set (r.kind, None))) (one (may_follow r.values) (λ n. kind.Set (r.kind, Some n))) (is_nothing r.values)
-    (λ h. spells None h)
+    (λ h. subst (λ v. Spells (kind.Set (r.kind, None)) v) (append-nil (row_prefix r)) (spells None h))
     (λ h. good_one (row_prefix r) (may_follow r.values) (λ n. kind.Set (r.kind, Some n)) (some_value r.values) (some_follows r.values h) (λ n k. spells (Some n) k))
 
 pub good_settings : (rows : List Row) (others : Tree) → ((i : ℕ) → i < length rows → SpellsSettings (row_at rows i)) → Good [] others → Good [] (settings rows others)

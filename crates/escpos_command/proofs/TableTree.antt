@@ -77,7 +77,8 @@ pub at_form : (q : List ℕ) → has_form q forms ≡ true → walk grammar q �
 at_form q h = ap (walk grammar) (sym (append-nil q)) ∙ form q [] h ∙ walk-nil (tree_after q forms)
 
 pub at_setting : (which : SettingKind) → walk grammar (row_prefix (row_for table which)) ≡ setting_tree (row_for table which)
-at_setting which = setting which [] ∙ walk-nil (setting_tree (row_for table which))
+at_setting which =
+    ap (walk grammar) (sym (append-nil (row_prefix (row_for table which)))) ∙ setting which [] ∙ walk-nil (setting_tree (row_for table which))
 
 pub at_neither : (q : List ℕ) → part_from q forms ≡ true → rows_part_from q table ≡ true → walk grammar q ≡ walk (node character) q
 at_neither q h k = ap (walk grammar) (sym (append-nil q)) ∙ elsewhere q [] h k ∙ ap (walk (node character)) (append-nil q)
@@ -92,8 +93,8 @@ leads_character b h =
 
 -- A setting's parameter stands after its prefix.
 pub spelled_setting : (which : SettingKind) (p : Option ℕ) → row (kind.Set (which, p)) ≡ row_prefix (row_for table which) ++ option_to_list p
-spelled_setting which None = refl
-spelled_setting which (Some n) = refl
+spelled_setting which p =
+    let spelled = row_prefix (row_for table which) ++ option_to_list p in append-nil (spelled ++ []) ∙ append-nil spelled
 
 leads_setting : (which : SettingKind) (p : Option ℕ) → is_setting table (which, p) ≡ true → walk grammar (row (kind.Set (which, p))) ≡ leaf (kind.Set (which, p))
 leads_setting which p h =

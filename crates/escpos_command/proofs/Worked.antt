@@ -1,36 +1,31 @@
 -- Worked rows of the profiles, computed from the definitions alone.
 use Rattle.std.proofs.Common.{◌≡◌, [], ◌∷◌, refl, true, false, map, Some}
-use Rattle.std.specs.Prelude.{filter, nat_lt}
+use Rattle.std.specs.Prelude.{◌==◌, filter}
 use Rattle.escpos_command.specs.declared.bytes.TheConstants.{ESC, GS}
 use Rattle.escpos_command.specs.declared.command.Command.TheVariants as kind
 use Rattle.escpos_command.specs.declared.setting.SettingKind.TheVariants as sets
 use Rattle.escpos_command.specs.SettingTable.{table, row_prefix}
-use Rattle.escpos_command.specs.ThirdProfile.{in_third_profile}
-use Rattle.escpos_command.specs.SecondProfile.{in_second_profile}
+use Rattle.escpos_command.specs.EarlierProfiles.{in_profile}
 
--- These settings came after the second profile, and none after the third.
-letters_since_second : map row_prefix (filter (λ r. nat_lt 2 r.since) table)
+-- These settings came with the third profile.
+letters_since_second : map row_prefix (filter (λ r. r.since == 3) table)
     ≡ (ESC ∷ 0x47 ∷ []) ∷ (ESC ∷ 0x52 ∷ []) ∷ (GS ∷ 0x42 ∷ []) ∷ (GS ∷ 0x62 ∷ []) ∷ (ESC ∷ 0x7B ∷ []) ∷ (ESC ∷ 0x33 ∷ []) ∷ (ESC ∷ 0x32 ∷ []) ∷ []
 unfolding table
 letters_since_second = refl
 
-letters_since_third : map row_prefix (filter (λ r. nat_lt 3 r.since) table) ≡ []
-unfolding table
-letters_since_third = refl
-
 -- The second profile had no smoothing, and underlines.
-no_smoothing : in_second_profile (kind.Set (sets.Smoothing, Some 0)) ≡ false
+no_smoothing : in_profile 2 (kind.Set (sets.Smoothing, Some 0)) ≡ false
 unfolding table
 no_smoothing = refl
 
 -- The third profile had it, and no automatic status.
-smoothing : in_third_profile (kind.Set (sets.Smoothing, Some 0)) ≡ true
+smoothing : in_profile 3 (kind.Set (sets.Smoothing, Some 0)) ≡ true
 unfolding table
 smoothing = refl
 
-no_automatic_status : in_third_profile (kind.AutomaticStatus 0) ≡ false
+no_automatic_status : in_profile 3 (kind.AutomaticStatus 0) ≡ false
 no_automatic_status = refl
 
-underlines : in_second_profile (kind.Set (sets.Underline, Some 1)) ≡ true
+underlines : in_profile 2 (kind.Set (sets.Underline, Some 1)) ≡ true
 unfolding table
 underlines = refl

@@ -13,9 +13,7 @@ pub mod Grammar
 pub mod Tree
 pub mod Prefixes
 pub mod Profiles
-pub mod ThirdProfile
-pub mod SecondProfile
-pub mod FirstProfile
+pub mod EarlierProfiles
 pub mod Laws
 pub mod Settings
 pub mod Text

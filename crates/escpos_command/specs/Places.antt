@@ -23,7 +23,7 @@ names_function b letter third bs = b == GS && letter == 0x28 && third == 0x6B &&
 abbrev pub reason_after : List ℕ → FaultReason
 -- the first byte of a command
 reason_after [] = UnknownByte
--- the letter after DLE, ESC or GS
+-- the letter after DLE, ESC, FS or GS
 reason_after (b ∷ []) = UnknownCommand
 -- the second letter after GS ( or GS v, or a parameter
 reason_after (b ∷ letter ∷ []) = if has_second_letter b letter then UnknownCommand else BadParameter

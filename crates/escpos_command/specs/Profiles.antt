@@ -1,14 +1,12 @@
 -- What a byte list says by an earlier profile of this project: by some of the commands of the table alone. The definitions of
 -- the grammar are stated again for these commands, so that the laws can say what has changed for programs that relied on what
 -- such a profile refused.
-use Rattle.std.specs.Prelude.{ℕ, ◌≡◌, ◌≢◌, ◌<◌, ◌⊎◌, nat_lt, Bool, IsTrue, List, [], ◌∷◌, ◌++◌, length, take, slice_index}
+use Rattle.std.specs.Prelude.{ℕ, ◌≡◌, ◌≢◌, ◌<◌, ◌⊎◌, Bool, IsTrue, List, [], ◌∷◌, ◌++◌, length, take, slice_index}
 use Rattle.std.specs.List.{AllByRecursion}
 use Rattle.escpos_command.specs.declared.command.Command.{Command}
 use Rattle.escpos_command.specs.declared.fault.FaultReason.{FaultReason}
-use Rattle.escpos_command.specs.declared.setting.SettingKind.{SettingKind}
 use Rattle.escpos_command.specs.CommandTable.{Spells, IsCommand, spell}
 use Rattle.escpos_command.specs.Places.{reason_after}
-use Rattle.escpos_command.specs.SettingTable.{table, row_for, row_prefix}
 
 -- The bytes are the spelling of a command that the profile has.
 abbrev pub SpellsIn : (Command → Bool) → Command → List ℕ → Type 0
@@ -39,9 +37,3 @@ IsReadIn has bs = (cs : List Command) × (rest : List ℕ) × ReadsIn has bs cs 
 
 abbrev pub IsRefusedIn : (Command → Bool) → List ℕ → Type 0
 IsRefusedIn has bs = (cs : List Command) × (rest : List ℕ) × (k : ℕ) × (why : FaultReason) × FaultAtIn has bs cs rest k why
-
--- After `rest`, the byte b ends the prefix of a setting that came after the profile of this number.
-pub record IsNewSetting (profile : ℕ) (rest : List ℕ) (b : ℕ) : Type 0 where
-  pub which : SettingKind
-  pub later : IsTrue (nat_lt profile (row_for table which).since)
-  pub ends : row_prefix (row_for table which) ≡ rest ++ b ∷ []

@@ -2,7 +2,7 @@
 -- letter or a range that changes there is refused.
 use Rattle.std.specs.Prelude.{ℕ, Bool, true, false, List, [], ◌∷◌, Option, None, Some, codes}
 use Rattle.escpos_command.specs.Parameters.{is_byte, is_one_of_two, is_one_of_three, is_one_of_four, is_character_set, is_size, is_bar_height, is_bar_width}
-use Rattle.escpos_command.specs.declared.bytes.TheConstants.{ESC, GS}
+use Rattle.escpos_command.specs.declared.bytes.TheConstants.{ESC, FS, GS}
 use Rattle.escpos_command.specs.declared.setting.SettingKind.{SettingKind}
 use Rattle.escpos_command.specs.declared.setting.SettingKind.TheVariants as sets
 

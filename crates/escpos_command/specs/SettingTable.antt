@@ -1,7 +1,7 @@
 -- The table of the commands that only set something. What is said of a table is said of any list of rows; `table` is the one
 -- of the module `setting`.
-use Rattle.std.specs.Prelude.{ℕ, ◌==◌, ◌&&◌, Bool, true, false, List, [], ◌∷◌, Option, None, Some, get_or}
-use Rattle.std.specs.Option.{unwrap_or}
+use Rattle.std.specs.Prelude.{ℕ, ◌==◌, ◌&&◌, Bool, true, false, List, [], ◌∷◌, Option, None, Some, option_to_list, get_or}
+use Rattle.std.specs.Option.{is_some, unwrap_or}
 use denote.Enum.Declared.{tag_of}
 use Rattle.escpos_command.specs.Parameters.{is_byte, is_one_of_two, is_one_of_three, is_one_of_four, is_character_set, is_size, is_bar_height, is_bar_width}
 use Rattle.escpos_command.specs.contracts.setting.SettingKind.{the_type}
@@ -34,17 +34,30 @@ fits v None = is_nothing v
 fits v (Some n) = may_follow v n
 
 abbrev pub row_prefix : Row → List ℕ
-row_prefix r = r.first ∷ r.second ∷ []
+row_prefix r = r.first ∷ r.second ∷ option_to_list r.third
 
-abbrev pub has_prefix : ℕ → ℕ → Row → Bool
-has_prefix first second r = r.first == first && r.second == second
+abbrev pub has_first : ℕ → Row → Bool
+has_first first r = r.first == first
+
+abbrev pub same_third : Option ℕ → Option ℕ → Bool
+same_third None None = true
+same_third None (Some n) = false
+same_third (Some m) None = false
+same_third (Some m) (Some n) = m == n
+
+abbrev pub has_prefix : ℕ → ℕ → Option ℕ → Row → Bool
+has_prefix first second third r = r.first == first && r.second == second && same_third r.third third
+
+-- Its prefix has a third byte after these two.
+abbrev pub takes_third : ℕ → ℕ → Row → Bool
+takes_third first second r = r.first == first && r.second == second && is_some r.third
 
 -- The place of a kind among all.
 abbrev pub number : SettingKind → ℕ
 number which = tag_of the_type which
 
 abbrev pub blank : Row
-blank = record { kind = sets.Mode; first = 0; second = 0; values = values.Nothing; since = 0 }
+blank = record { kind = sets.Mode; first = 0; second = 0; third = None; values = values.Nothing; since = 0 }
 
 abbrev pub row_at : List Row → ℕ → Row
 row_at rows i = get_or rows i blank

@@ -12,6 +12,9 @@ pub const DLE: u8 = 0x10;
 /// Escape, the first byte of ESC @ and the commands like it.
 pub const ESC: u8 = 0x1B;
 
+/// File separator, the first byte of FS . and the commands like it.
+pub const FS: u8 = 0x1C;
+
 /// Group separator, the first byte of GS V and the commands like it.
 pub const GS: u8 = 0x1D;
 
@@ -19,4 +22,6 @@ pub const GS: u8 = 0x1D;
 pub const EOT: u8 = 0x04;
 
 // The definitions cite these values, so each is pinned to the Reference's.
-const _: () = prove!(LF == 10 && CR == 13 && DLE == 16 && ESC == 27 && GS == 29 && EOT == 4);
+const _: () = prove!(
+    LF == 10 && CR == 13 && DLE == 16 && ESC == 27 && FS == 28 && GS == 29 && EOT == 4
+);

@@ -13,9 +13,7 @@ ghost use Rattle.escpos_command.specs.declared.setting.SettingKind.{SettingKind}
 ghost use Rattle.escpos_command.specs.Digits.{mark_count, mark_of};
 ghost use Rattle.escpos_command.specs.Tree.{Tree, dead, leaf, node, walk, grammar};
 ghost use Rattle.escpos_command.specs.Profiles.{ViableIn, ReadsIn, FaultAtIn, IsReadIn, IsRefusedIn};
-ghost use Rattle.escpos_command.specs.FirstProfile.{in_first_profile, IsNew};
-ghost use Rattle.escpos_command.specs.ThirdProfile.{in_third_profile, IsNewSinceThird};
-ghost use Rattle.escpos_command.specs.SecondProfile.{in_second_profile, IsNewLetter};
+ghost use Rattle.escpos_command.specs.EarlierProfiles.{in_profile, IsNew};
 ghost use Rattle.escpos_command.specs.Marks.{IsMarkOrNone, marks};
 ghost use Rattle.escpos_command.specs.declared.bytes.TheConstants.{GS};
 ghost use Rattle.escpos_command.specs.Answers.{AnswerSpells, Hears, kind_of, kind_by};
@@ -58,37 +56,16 @@ pub fn joined_readings()
         → (others : List Command) × (all ≡ some ++ others) × Reads (r ++ b) others [] }
 {}
 
-/// The first profile, which had no ESC J, no ESC p, no raster of more than 2,047 rows and nothing that is new since the second
-/// profile: it reads or refuses each byte list; what it read is read so by the whole table; and where it refused a byte, that
-/// byte is refused for the same reason, unless it is one of these.
-pub fn first_profile()
-    ensures read_or_refused { (bs : List ℕ) → IsReadIn in_first_profile bs ⊎ IsRefusedIn in_first_profile bs }
-    ensures read { (bs : List ℕ) (cs : List Command) (rest : List ℕ) → ReadsIn in_first_profile bs cs rest → Reads bs cs rest }
-    ensures refused { (bs : List ℕ) (cs : List Command) (rest : List ℕ) (k : ℕ) (why : FaultReason) →
-        FaultAtIn in_first_profile bs cs rest k why → FaultAt bs cs rest k why ⊎ IsNew rest (slice_index bs k) }
-{}
-
-/// The second profile, which had no QR codes, no automatic status and none of the settings that came later: it reads or refuses each byte list; what it read is read so by the whole table; and where it refused a byte, that byte
-/// is refused for the same reason, unless it is the letter of one of these, which is taken now and wasn't then.
-pub fn second_profile()
-    ensures read_or_refused { (bs : List ℕ) → IsReadIn in_second_profile bs ⊎ IsRefusedIn in_second_profile bs }
-    ensures read { (bs : List ℕ) (cs : List Command) (rest : List ℕ) → ReadsIn in_second_profile bs cs rest → Reads bs cs rest }
-    ensures refused { (bs : List ℕ) (cs : List Command) (rest : List ℕ) (k : ℕ) (why : FaultReason) →
-        FaultAtIn in_second_profile bs cs rest k why → FaultAt bs cs rest k why ⊎ IsNewLetter rest (slice_index bs k) }
-    ensures new { (rest : List ℕ) (b : ℕ) → IsNewLetter rest b →
-        Viable (rest ++ b ∷ []) × (ViableIn in_second_profile (rest ++ b ∷ []) → ⊥) }
-{}
-
-/// The third profile, which had no automatic status and none of the settings that came later: it reads or refuses each byte list; what it read is read so by the whole
-/// table; and where it refused a byte, that byte is refused for the same reason, unless it is the letter of one of
-/// these, which is taken now and wasn't then.
-pub fn third_profile()
-    ensures read_or_refused { (bs : List ℕ) → IsReadIn in_third_profile bs ⊎ IsRefusedIn in_third_profile bs }
-    ensures read { (bs : List ℕ) (cs : List Command) (rest : List ℕ) → ReadsIn in_third_profile bs cs rest → Reads bs cs rest }
-    ensures refused { (bs : List ℕ) (cs : List Command) (rest : List ℕ) (k : ℕ) (why : FaultReason) →
-        FaultAtIn in_third_profile bs cs rest k why → FaultAt bs cs rest k why ⊎ IsNewSinceThird rest (slice_index bs k) }
-    ensures new { (rest : List ℕ) (b : ℕ) → IsNewSinceThird rest b →
-        Viable (rest ++ b ∷ []) × (ViableIn in_third_profile (rest ++ b ∷ []) → ⊥) }
+/// The earlier profiles of this project, by their numbers from 1 on, which lacked what came later: each reads or refuses each byte list;
+/// what it read is read so by the whole table; and where it refused a byte, that byte is refused for the same reason, unless it is new.
+/// What is new is taken now, and wasn't then.
+pub fn earlier_profiles()
+    ensures read_or_refused { (n : ℕ) → 1 ≤ n → (bs : List ℕ) → IsReadIn (in_profile n) bs ⊎ IsRefusedIn (in_profile n) bs }
+    ensures read { (n : ℕ) (bs : List ℕ) (cs : List Command) (rest : List ℕ) → ReadsIn (in_profile n) bs cs rest → Reads bs cs rest }
+    ensures refused { (n : ℕ) → 1 ≤ n → (bs : List ℕ) (cs : List Command) (rest : List ℕ) (k : ℕ) (why : FaultReason) →
+        FaultAtIn (in_profile n) bs cs rest k why → FaultAt bs cs rest k why ⊎ IsNew n rest (slice_index bs k) }
+    ensures new { (n : ℕ) → 1 ≤ n → (rest : List ℕ) (b : ℕ) → IsNew n rest b →
+        Viable (rest ++ b ∷ []) × (ViableIn (in_profile n) (rest ++ b ∷ []) → ⊥) }
 {}
 
 /// The table of settings: its rows have the letters of the Reference, and allow the same parameters.

@@ -31,7 +31,7 @@ mod writing;
 pub use answer::Answer;
 pub use automatic_status::{AutomaticStatus, begins_block, continues_block};
 pub use bars::{BarFault, Bars, Form, Symbology, is_codabar, is_codabar_end, is_code39, is_digit};
-pub use bytes::{CR, DLE, EOT, ESC, GS, LF};
+pub use bytes::{CR, DLE, EOT, ESC, FS, GS, LF};
 pub use chars::{CharsFault, chars_of};
 pub use command::{Command, LONGEST_PREFIX, Parts};
 pub use content::Bytes;

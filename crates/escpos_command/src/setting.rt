@@ -5,13 +5,13 @@
 //! prefixes, the names and the search for a prefix. What holds for every kind is proved of any table of such rows: a new
 //! setting is a variant of `SettingKind`, a row in the same place, and a line of `specs/Reference.antt`.
 
-ghost use Rattle.std.specs.Prelude.{◌≡◌, ◌≤◌, ◌∷◌, [], ℕ, false, length, IsTrue, MatchOption};
+ghost use Rattle.std.specs.Prelude.{◌≡◌, ◌≤◌, ◌∷◌, ℕ, false, length, option_to_list, IsTrue, MatchOption};
 ghost use Rattle.std.specs.List.{list_any};
 ghost use Rattle.std.specs.Option.{SomeIff};
-ghost use Rattle.escpos_command.specs.SettingTable.{table, fits, row_for, row_prefix, has_prefix, is_setting, value};
+ghost use Rattle.escpos_command.specs.SettingTable.{table, fits, row_for, row_prefix, has_first, has_prefix, takes_third, is_setting, value};
 ghost use Rattle.escpos_command.specs.Reference.{name_of};
 
-use crate::bytes::{ESC, GS};
+use crate::bytes::{ESC, FS, GS};
 use std::marker::Model;
 
 /// The parameters that may follow a prefix.
@@ -86,6 +86,8 @@ pub struct Row {
     pub first: u8,
     /// Its second byte.
     pub second: u8,
+    /// Its third byte, if it has one.
+    pub third: Option<u8>,
     pub values: Values,
     /// The number of the profile that first had it.
     pub since: u8,
@@ -96,34 +98,35 @@ macro_rules! settings {
     ($with:ident $($place:ident)?) => {
         $with! {
             $($place)?;
-            Mode, ESC, b'!', Byte, 1, "mode";
-            Emphasis, ESC, b'E', Byte, 1, "emphasis";
-            DoubleStrike, ESC, b'G', Byte, 3, "strike";
-            Underline, ESC, b'-', OneOfThree, 1, "underline";
-            Font, ESC, b'M', OneOfTwo, 1, "font";
-            Table, ESC, b't', Byte, 1, "table";
-            CharacterSet, ESC, b'R', CharacterSet, 3, "charset";
-            Reverse, GS, b'B', Byte, 3, "reverse";
-            Smoothing, GS, b'b', Byte, 3, "smooth";
-            UpsideDown, ESC, b'{', Byte, 3, "upside";
-            Align, ESC, b'a', OneOfThree, 1, "align";
-            LineSpacing, ESC, b'3', Byte, 3, "spacing";
-            DefaultSpacing, ESC, b'2', Nothing, 3, "spacing default";
-            Size, GS, b'!', Size, 1, "size";
-            BarHeight, GS, b'h', BarHeight, 1, "barheight";
-            BarWidth, GS, b'w', BarWidth, 1, "barwidth";
-            HriPlace, GS, b'H', OneOfFour, 1, "hriplace";
-            HriFont, GS, b'f', OneOfTwo, 1, "hrifont";
+            Mode, ESC, b'!', None, Byte, 1, "mode";
+            Emphasis, ESC, b'E', None, Byte, 1, "emphasis";
+            DoubleStrike, ESC, b'G', None, Byte, 3, "strike";
+            Underline, ESC, b'-', None, OneOfThree, 1, "underline";
+            Font, ESC, b'M', None, OneOfTwo, 1, "font";
+            Table, ESC, b't', None, Byte, 1, "table";
+            CharacterSet, ESC, b'R', None, CharacterSet, 3, "charset";
+            Reverse, GS, b'B', None, Byte, 3, "reverse";
+            Smoothing, GS, b'b', None, Byte, 3, "smooth";
+            UpsideDown, ESC, b'{', None, Byte, 3, "upside";
+            Align, ESC, b'a', None, OneOfThree, 1, "align";
+            LineSpacing, ESC, b'3', None, Byte, 3, "spacing";
+            DefaultSpacing, ESC, b'2', None, Nothing, 3, "spacing default";
+            Size, GS, b'!', None, Size, 1, "size";
+            BarHeight, GS, b'h', None, BarHeight, 1, "barheight";
+            BarWidth, GS, b'w', None, BarWidth, 1, "barwidth";
+            HriPlace, GS, b'H', None, OneOfFour, 1, "hriplace";
+            HriFont, GS, b'f', None, OneOfTwo, 1, "hrifont";
         }
     };
 }
 
 macro_rules! rows {
-    (; $($kind:ident, $first:expr, $second:expr, $values:ident, $since:expr, $name:expr;)*) => {
+    (; $($kind:ident, $first:expr, $second:expr, $third:tt, $values:ident, $since:expr, $name:expr;)*) => {
         [$(Row {
             kind: SettingKind::$kind,
             first: $first,
             second: $second,
+            third: $third,
             values: Values::$values,
             since: $since,
         }),*]
@@ -131,23 +134,29 @@ macro_rules! rows {
 }
 
 macro_rules! count {
-    (; $($kind:ident, $first:expr, $second:expr, $values:ident, $since:expr, $name:expr;)*) => {
+    (; $($kind:ident, $first:expr, $second:expr, $third:tt, $values:ident, $since:expr, $name:expr;)*) => {
         [$($since),*].len()
     };
 }
 
+// The bytes of a prefix.
+macro_rules! bytes {
+    ($first:expr, $second:expr, None) => { &[$first, $second] };
+    ($first:expr, $second:expr, (Some($third:expr))) => { &[$first, $second, $third] };
+}
+
 // The prefix of a kind.
 macro_rules! prefixes {
-    ($place:ident; $($kind:ident, $first:expr, $second:expr, $values:ident, $since:expr, $name:expr;)*) => {
+    ($place:ident; $($kind:ident, $first:expr, $second:expr, $third:tt, $values:ident, $since:expr, $name:expr;)*) => {
         match $place {
-            $(SettingKind::$kind => &[$first, $second],)*
+            $(SettingKind::$kind => bytes!($first, $second, $third),)*
         }
     };
 }
 
 // The name of a kind.
 macro_rules! names {
-    ($place:ident; $($kind:ident, $first:expr, $second:expr, $values:ident, $since:expr, $name:expr;)*) => {
+    ($place:ident; $($kind:ident, $first:expr, $second:expr, $third:tt, $values:ident, $since:expr, $name:expr;)*) => {
         match $place {
             $(SettingKind::$kind => $name,)*
         }
@@ -156,11 +165,31 @@ macro_rules! names {
 
 // The kind of a prefix.
 macro_rules! kinds {
-    ($place:ident; $($kind:ident, $first:tt, $second:tt, $values:ident, $since:expr, $name:expr;)*) => {
+    ($place:ident; $($kind:ident, $first:tt, $second:tt, $third:tt, $values:ident, $since:expr, $name:expr;)*) => {
         match $place {
-            $(($first, $second) => Some(SettingKind::$kind),)*
+            $(($first, $second, $third) => Some(SettingKind::$kind),)*
             _ => None,
         }
+    };
+}
+
+// Whether a prefix has a third byte.
+macro_rules! has_third {
+    (None) => { false };
+    ((Some($third:expr))) => { true };
+}
+
+// Whether a prefix of three bytes begins with the two of a place.
+macro_rules! begun {
+    ($place:ident; $($kind:ident, $first:expr, $second:expr, $third:tt, $values:ident, $since:expr, $name:expr;)*) => {
+        $($place.0 == $first && $place.1 == $second && has_third!($third) ||)* false
+    };
+}
+
+// Whether a prefix begins with a byte.
+macro_rules! firsts {
+    ($place:ident; $($kind:ident, $first:expr, $second:expr, $third:tt, $values:ident, $since:expr, $name:expr;)*) => {
+        $($place == $first ||)* false
     };
 }
 
@@ -173,11 +202,28 @@ pub const TABLE: [Row; COUNT] = settings!(rows);
 impl SettingKind {
     /// The kind with this prefix; `None` where the table has none.
     #[tactic(auto, unfolding(crate::specs::SettingTable::table))]
-    pub fn with_prefix(first: u8, second: u8) -> Option<Self>
-        ensures { MatchOption result (list_any (has_prefix first second) table ≡ false) (λ kind. row_prefix (row_for table kind) ≡ first ∷ second ∷ []) }
+    pub fn with_prefix(first: u8, second: u8, third: Option<u8>) -> Option<Self>
+        ensures { MatchOption result (list_any (has_prefix first second third) table ≡ false) (λ kind. row_prefix (row_for table kind) ≡ first ∷ second ∷ option_to_list third) }
+    {
+        let place = (first, second, third);
+        settings!(kinds place)
+    }
+
+    /// Whether a prefix begins with this byte.
+    #[tactic(auto, unfolding(crate::specs::SettingTable::table))]
+    pub fn begins(first: u8) -> bool
+        ensures { result ≡ list_any (has_first first) table }
+    {
+        settings!(firsts first)
+    }
+
+    /// Whether a prefix of three bytes begins with these two.
+    #[tactic(auto, unfolding(crate::specs::SettingTable::table))]
+    pub fn is_begun(first: u8, second: u8) -> bool
+        ensures { result ≡ list_any (takes_third first second) table }
     {
         let place = (first, second);
-        settings!(kinds place)
+        settings!(begun place)
     }
 
     /// The bytes that a command of this kind begins with.

@@ -1,6 +1,8 @@
 -- What a state says of the half command, by the law of the tree.
 use Rattle.std.proofs.Common.{◌≡◌, ◌≢◌, ◌<◌, inl, inr, ℕ, List, [], ◌∷◌, ◌++◌, length, take, refl, sym, ◌∙◌, ap, subst, append_assoc, append-nil, arith, zero, suc, Bool, true, false, cond, length-append, None, Some}
-use Rattle.std.specs.Prelude.{slice_index, IsTrue, nat_lt, not}
+use Rattle.std.specs.Prelude.{◌==◌, ◌&&◌, slice_index, IsTrue, nat_lt, not, Option, option_to_list}
+use Rattle.std.specs.List.{list_any}
+use Rattle.std.specs.Option.{is_some}
 use Rattle.std.proofs.Math.Seq.{take-append_seam, get_or-append_seam}
 use Rattle.std.proofs.lemmas.Bool.Decides.{nat_tests}
 use Rattle.escpos_command.specs.declared.command.Command.{Command}
@@ -9,7 +11,8 @@ use Rattle.escpos_command.specs.declared.fault.FaultReason.{FaultReason}
 use Rattle.escpos_command.specs.CommandTable.{Spells}
 use Rattle.escpos_command.specs.Grammar.{Viable, Half, Reads, FaultAt}
 use Rattle.escpos_command.specs.Places.{reason_after}
-use Rattle.escpos_command.specs.Tree.{Tree, dead, leaf, node, walk, one, grammar, setting_tree, counted, closed, stopped}
+use Rattle.escpos_command.specs.Prefixes.{part_from}
+use Rattle.escpos_command.specs.Tree.{Tree, dead, leaf, node, walk, one, forms, grammar, setting_tree, counted, closed, stopped}
 use Rattle.escpos_decode.specs.declared.state.State.{State}
 use Rattle.escpos_decode.specs.declared.state.State.TheVariants as state
 use Rattle.escpos_decode.specs.declared.state.Ending.{Ending}
@@ -21,14 +24,17 @@ use Rattle.escpos_decode.specs.declared.decoder.Ahead.TheVariants as ahead
 use Rattle.escpos_decode.specs.State.{prefix_of, tree_of, has_content, holds, step, command_of, IsAt, Moves, Grows, NextIs}
 use Rattle.escpos_decode.specs.Push.{IsRest, AheadIs, ahead_of}
 use Rattle.escpos_command.proofs.Readings.{half_at_node, not_viable_at_dead, spelling_at_leaf}
-use Rattle.escpos_command.proofs.TableTree.{at_form}
+use Rattle.escpos_command.proofs.Combinators.{and_left, and_right, same_number}
+use Rattle.escpos_command.proofs.SettingFacts.{is_table}
+use Rattle.escpos_command.proofs.SettingRows.{live_setting, some_kind}
+use Rattle.escpos_command.proofs.TableTree.{at_form, at_setting}
 use Rattle.escpos_command.proofs.TableTree.{at_start as before_all}
 use Rattle.escpos_command.proofs.Walks.{IsLive, walk-append, walk-nil}
 use Rattle.escpos_command.specs.declared.bytes.TheConstants.{DLE, EOT, ESC, GS}
 use Rattle.escpos_command.specs.declared.setting.SettingKind.{SettingKind}
 use Rattle.escpos_command.specs.declared.setting.Values.{Values}
 use Rattle.escpos_command.specs.declared.setting.Values.TheVariants as values
-use Rattle.escpos_command.specs.SettingTable.{table, is_nothing, may_follow, row_for}
+use Rattle.escpos_command.specs.SettingTable.{table, is_nothing, may_follow, has_first, has_prefix, takes_third, row_for}
 use Rattle.escpos_decode.specs.State.{completed}
 
 -- The law of the tree, as `escpos_command` states it.
@@ -75,11 +81,39 @@ node_at_setting which h =
     let r = row_for table which in
     (_, ap (λ v. cond v (leaf (kind.Set (r.kind, None))) (one (may_follow r.values) (λ n. kind.Set (r.kind, Some n)))) (not_nothing r.values h))
 
+node_at_first : (first : ℕ) → list_any (has_first first) table ≡ true → (next : ℕ → Tree) × (walk grammar (first ∷ []) ≡ node next)
+node_at_first first h =
+    let found = some_kind table is_table (has_first first) h in
+    let r = row_for table found.0 in
+    let to = node_at_prefix (r.first ∷ []) r.second (option_to_list r.third) (setting_tree r) (at_setting found.0) (live_setting r) in
+    (to.0, ap (λ v. walk grammar (v ∷ [])) (sym (same_number r.first first found.1)) ∙ to.1)
+
+node_by_third : (first second : ℕ) (third : Option ℕ) (t : Tree) → is_some third ≡ true → walk grammar (first ∷ second ∷ option_to_list third) ≡ t → IsLive t
+    → (next : ℕ → Tree) × (walk grammar (first ∷ second ∷ []) ≡ node next)
+node_by_third first second None t h e live = absurd cc
+node_by_third first second (Some n) t h e live = node_at_prefix (first ∷ second ∷ []) n [] t e live
+
+node_at_letters : (first second : ℕ) → list_any (takes_third first second) table ≡ true → (next : ℕ → Tree) × (walk grammar (first ∷ second ∷ []) ≡ node next)
+node_at_letters first second h =
+    let found = some_kind table is_table (takes_third first second) h in
+    let r = row_for table found.0 in
+    let letters = and_left (r.first == first && r.second == second) (is_some r.third) found.1 in
+    let to = node_by_third r.first r.second r.third (setting_tree r) (and_right (r.first == first && r.second == second) (is_some r.third) found.1) (at_setting found.0) (live_setting r) in (
+      to.0,
+      ap (λ v. walk grammar (v ∷ second ∷ [])) (sym (same_number r.first first (and_left (r.first == first) (r.second == second) letters)))
+          ∙ ap (λ v. walk grammar (r.first ∷ v ∷ [])) (sym (same_number r.second second (and_right (r.first == first) (r.second == second) letters))) ∙ to.1,
+    )
+
 node_at : (p : State) (read : List ℕ) → IsTrue (holds p) → (next : ℕ → Tree) × (tree_of p read ≡ node next)
 node_at state.Start read h = before_all
 node_at state.Dle read h = node_at_prefix (DLE ∷ []) EOT [] _ (at_form (DLE ∷ EOT ∷ []) refl) tt
 node_at state.Esc read h = node_at_prefix (ESC ∷ []) 0x40 [] _ (at_form (ESC ∷ 0x40 ∷ []) refl) tt
 node_at state.Gs read h = node_at_prefix (GS ∷ []) 0x56 [] _ (at_form (GS ∷ 0x56 ∷ []) refl) tt
+node_at (state.First first) read h = node_at_first first (and_left (list_any (has_first first) table) (part_from (first ∷ []) forms) h)
+node_at (state.Letters first second) read h =
+    let any = list_any (takes_third first second) table in
+    let short = list_any (has_prefix first second None) table in
+    node_at_letters first second (and_left any (not short) (and_left (any && not short) (part_from (first ∷ second ∷ []) forms) h))
 node_at (state.Setting which) read h = node_at_setting which h
 node_at (state.Parameter l) read h = (_, refl)
 node_at state.PulsePin read h = (_, refl)

@@ -1,7 +1,8 @@
 -- Where in the command table a decoder stands between two bytes. A state stands for bytes, those that lead to it, and for
 -- the part of the tree of the command table that is below it. Only private clauses, invariants and proofs use these
 -- definitions.
-use Rattle.std.specs.Prelude.{ℕ, ◌≡◌, ◌+◌, ◌-◌, ◌/◌, ◌%◌, ◌&&◌, nat_le, nat_lt, not, Bool, true, false, IsTrue, Some, List, [], ◌∷◌, ◌++◌, take, drop}
+use Rattle.std.specs.Prelude.{ℕ, ◌≡◌, ◌+◌, ◌-◌, ◌/◌, ◌%◌, ◌&&◌, nat_le, nat_lt, not, Bool, true, false, IsTrue, None, Some, List, [], ◌∷◌, ◌++◌, take, drop}
+use Rattle.std.specs.List.{list_any}
 use Rattle.escpos_command.specs.declared.bytes.TheConstants.{DLE, ESC, GS}
 use Rattle.escpos_command.specs.declared.command.Command.{Command}
 use Rattle.escpos_command.specs.declared.command.Command.TheVariants as kind
@@ -10,8 +11,9 @@ use Rattle.escpos_command.specs.declared.bars.Symbology.TheVariants.{Codabar}
 use Rattle.escpos_command.specs.Parameters.{is_byte, is_one_of_two, is_one_of_four, is_feed_cut_mode, is_mark_byte, is_qr_model}
 use Rattle.escpos_command.specs.Barcodes.{barcode, barcode_mode, is_codabar_end}
 use Rattle.escpos_command.specs.Rasters.{picture, is_width}
-use Rattle.escpos_command.specs.SettingTable.{table, is_nothing, row_prefix, row_for}
-use Rattle.escpos_command.specs.Tree.{Tree, walk, below, dead, leaf, node, passing, these, one, counted, branch, none, grammar, setting_tree, pulse, cut, barcodes, raster, after_scale, after_width, after_low, plain_content, codabar_content, content_of, dots_tree, form_b, qr, qr_high, qr_code, qr_function, qr_data}
+use Rattle.escpos_command.specs.Prefixes.{part_from}
+use Rattle.escpos_command.specs.SettingTable.{table, is_nothing, has_first, has_prefix, takes_third, row_prefix, row_for}
+use Rattle.escpos_command.specs.Tree.{Tree, walk, below, dead, leaf, node, passing, these, one, counted, branch, none, forms, grammar, setting_tree, pulse, cut, barcodes, raster, after_scale, after_width, after_low, plain_content, codabar_content, content_of, dots_tree, form_b, qr, qr_high, qr_code, qr_function, qr_data}
 use Rattle.escpos_decode.specs.OneParameter.{parameter_prefix, parameter_allows, parameter_command}
 use Rattle.escpos_decode.specs.Push.{ahead_of, begins_content}
 use Rattle.escpos_decode.specs.declared.decoder.Ahead.{Ahead}
@@ -39,6 +41,8 @@ prefix_of state.Start = []
 prefix_of state.Dle = DLE ∷ []
 prefix_of state.Esc = ESC ∷ []
 prefix_of state.Gs = GS ∷ []
+prefix_of (state.First first) = first ∷ []
+prefix_of (state.Letters first second) = first ∷ second ∷ []
 prefix_of (state.Setting which) = row_prefix (row_for table which)
 prefix_of (state.Parameter letter) = parameter_prefix letter
 prefix_of state.PulsePin = ESC ∷ 0x70 ∷ []
@@ -85,6 +89,8 @@ tree_of state.Start read = grammar
 tree_of state.Dle read = walk grammar (DLE ∷ [])
 tree_of state.Esc read = walk grammar (ESC ∷ [])
 tree_of state.Gs read = walk grammar (GS ∷ [])
+tree_of (state.First first) read = walk grammar (first ∷ [])
+tree_of (state.Letters first second) read = walk grammar (first ∷ second ∷ [])
 tree_of (state.Setting which) read = setting_tree (row_for table which)
 tree_of (state.Parameter letter) read = one (parameter_allows letter) (parameter_command letter)
 tree_of state.PulsePin read = pulse
@@ -149,6 +155,8 @@ has_content _ = false
 
 -- What a state holds is in range.
 abbrev pub holds : State → Bool
+holds (state.First first) = list_any (has_first first) table && part_from (first ∷ []) forms
+holds (state.Letters first second) = list_any (takes_third first second) table && not (list_any (has_prefix first second None) table) && part_from (first ∷ second ∷ []) forms
 holds (state.Setting which) = not (is_nothing (row_for table which).values)
 holds (state.PulseOn pin) = is_one_of_two pin
 holds (state.PulseOff pin on) = is_one_of_two pin

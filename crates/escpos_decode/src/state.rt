@@ -7,9 +7,10 @@
 
 ghost use Rattle.std.specs.Prelude.{◌≡◌, ◌∷◌, ◌++◌, ◌&&◌, [], ℕ, List, length, false, IsTrue, Some, None};
 ghost use Rattle.escpos_command.specs.declared.command.Command.{Command};
-ghost use Rattle.escpos_command.specs.Parameters.{is_mark_byte};
+ghost use Rattle.escpos_command.specs.Parameters.{is_character, is_mark_byte};
 ghost use Rattle.escpos_command.specs.Places.{reason_after};
 ghost use Rattle.escpos_command.specs.Prefixes.{part_from};
+ghost use Rattle.escpos_command.specs.SettingTable.{table, row_for, row_prefix};
 ghost use Rattle.escpos_command.specs.Tree.{these, walk, forms, grammar};
 ghost use Rattle.escpos_decode.specs.State.{prefix_of, tree_of, holds, has_content, wanted_at, NextIs};
 ghost use Rattle.escpos_decode.specs.declared.state.State.{State};
@@ -34,6 +35,15 @@ pub enum State {
     Esc,
     /// After GS.
     Gs,
+    /// After another first byte of settings.
+    First {
+        first: u8,
+    },
+    /// After the first two bytes of settings whose prefix has three.
+    Letters {
+        first: u8,
+        second: u8,
+    },
     /// After the prefix of a setting that has a parameter.
     Setting(SettingKind),
     /// After another letter with one parameter.
@@ -213,6 +223,8 @@ impl State {
             State::Dle => after_dle(byte),
             State::Esc => after_esc(byte),
             State::Gs => after_gs(byte),
+            State::First { first } => after_letters(first, byte),
+            State::Letters { first, second } => third_letter(first, second, byte),
             State::Setting(kind) => setting_parameter(kind, byte),
             State::Parameter(letter) => done(letter.command(byte)),
             State::PulsePin => pulse_pin(byte),
@@ -284,9 +296,10 @@ impl State {
     {
         match self {
             State::Start => 0,
-            State::Dle | State::Esc | State::Gs => 1,
+            State::Dle | State::Esc | State::Gs | State::First { .. } => 1,
             State::Parameter(letter) => letter.prefix_len(),
-            State::Setting(_)
+            State::Setting(kind) => kind.prefix().len(),
+            State::Letters { .. }
             | State::PulsePin
             | State::CutMode
             | State::Bracket
@@ -325,7 +338,8 @@ impl State {
 
     /// Why a byte is refused here, where `content` is the content, or the dots, read so far.
     pub fn reason(self, content: &[u8]) -> FaultReason
-        requires { has_content self ≡ false → content.now ≡ [] }
+        requires held { IsTrue (holds self) }
+        requires empty { has_content self ≡ false → content.now ≡ [] }
         ensures { result ≡ reason_after (prefix_of self ++ content.now) }
     {
         match self {
@@ -333,10 +347,12 @@ impl State {
             State::Dle
             | State::Esc
             | State::Gs
+            | State::First { .. }
             | State::Bracket
             | State::RasterFunction
             | State::QrCode { .. }
             | State::QrFunction { .. } => FaultReason::UnknownCommand,
+            State::Letters { .. } => FaultReason::UnknownCommand,
             State::PlainContent { .. }
             | State::CodabarFirst
             | State::CodabarContent { .. }
@@ -390,8 +406,21 @@ fn start(byte: u8) -> Next
         GS => Next::To(State::Gs),
         _ => match Character::new(byte) {
             Some(character) => Next::Done(Command::Char(character)),
-            None => Next::Refused,
+            None => other_first(byte),
         },
+    }
+}
+
+// A first byte that begins no command but settings.
+fn other_first(byte: u8) -> Next
+    requires no_form { IsTrue (part_from (byte ∷ []) forms) }
+    requires no_character { is_character byte ≡ false }
+    ensures { (read : List ℕ) → NextIs result state.Start read byte }
+{
+    if SettingKind::begins(byte) {
+        Next::To(State::First { first: byte })
+    } else {
+        Next::Refused
     }
 }
 
@@ -429,17 +458,37 @@ fn after_gs(byte: u8) -> Next
     }
 }
 
-// Two bytes that begin no command but a setting.
+// Two bytes that begin no command but settings.
 fn after_letters(first: u8, second: u8) -> Next
     requires { IsTrue (part_from (first ∷ second ∷ []) forms) }
     ensures { (p : State) (read : List ℕ) → prefix_of p ≡ first ∷ [] → tree_of p read ≡ walk grammar (first ∷ []) → has_content p ≡ false → NextIs result p read second }
 {
-    match SettingKind::with_prefix(first, second) {
+    match SettingKind::with_prefix(first, second, None) {
+        Some(kind) => at_setting(kind),
+        None if SettingKind::is_begun(first, second) => Next::To(State::Letters { first, second }),
         None => Next::Refused,
-        Some(kind) => match Setting::new(kind, None) {
-            Some(setting) => Next::Done(Command::Set(setting)),
-            None => Next::To(State::Setting(kind)),
-        },
+    }
+}
+
+// The last byte of a prefix of three.
+fn third_letter(first: u8, second: u8, third: u8) -> Next
+    requires { IsTrue (holds (state.Letters first second)) }
+    ensures { (read : List ℕ) → NextIs result (state.Letters first second) read third }
+{
+    match SettingKind::with_prefix(first, second, Some(third)) {
+        Some(kind) => at_setting(kind),
+        None => Next::Refused,
+    }
+}
+
+// The last byte of the prefix of a setting, which is the whole command or is followed by a parameter.
+fn at_setting(kind: SettingKind) -> Next
+    ensures { (p : State) (read : List ℕ) (b : ℕ) → row_prefix (row_for table kind) ≡ prefix_of p ++ b ∷ [] → tree_of p read ≡ walk grammar (prefix_of p) → has_content p ≡ false
+        → NextIs result p read b }
+{
+    match Setting::new(kind, None) {
+        Some(setting) => Next::Done(Command::Set(setting)),
+        None => Next::To(State::Setting(kind)),
     }
 }
 

@@ -1,11 +1,11 @@
 -- Commands of the first profile print items of the first profile.
-use Rattle.std.proofs.Common.{◌≡◌, ◌≤◌, ℕ, List, [], ◌∷◌, ◌++◌, length, Bool, true, false, cond, arith, IsTrue}
+use Rattle.std.proofs.Common.{◌≡◌, ◌≤◌, ℕ, List, [], ◌∷◌, ◌++◌, length, refl, Bool, true, false, cond, arith, IsTrue}
 use Rattle.std.specs.Prelude.{nat_le, nat_lt}
 use Rattle.std.specs.List.{AllByRecursion}
 use Rattle.std.proofs.lemmas.Bool.Decides.{nat_tests}
 use Rattle.escpos_command.specs.declared.command.Command.{Command}
 use Rattle.escpos_command.specs.declared.command.Command.TheVariants as kind
-use Rattle.escpos_command.specs.FirstProfile.{in_first_profile}
+use Rattle.escpos_command.specs.EarlierProfiles.{in_profile}
 use Rattle.escpos_paper.specs.declared.cell.Cell.{Cell}
 use Rattle.escpos_paper.specs.declared.item.Item.{Item}
 use Rattle.escpos_paper.specs.declared.style.LineStyle.{LineStyle}
@@ -34,16 +34,17 @@ chosen : (b : Bool) (items : List Item) → AreFirst items → AreFirst (cond b 
 chosen true items h = h
 chosen false items h = tt
 
-few_rows : (n : ℕ) → nat_le n 2047 ≡ true → n ≤ 2047
-few_rows n h = grind (arith, nat_tests)
+few_rows : (n : ℕ) (v : Bool) → nat_le n 2047 ≡ v → nat_le (cond v 1 2) 1 ≡ true → n ≤ 2047
+few_rows n true e h = grind (arith, nat_tests, e)
+few_rows n false e h = absurd cc
 
-prints_first : (w : ℕ) (before : List Command) (c : Command) → IsTrue (in_first_profile c) → AreFirst (prints w before c)
+prints_first : (w : ℕ) (before : List Command) (c : Command) → IsTrue (in_profile 1 c) → AreFirst (prints w before c)
 prints_first w before (kind.Char b) h = chosen (nat_lt (length (rows w before)) (length (rows w (before ++ kind.Char b ∷ [])))) (row_and_feed (line_style before) (line w before)) (row_with_feed (line_style before) (line w before))
 prints_first w before kind.LineFeed h = both (row_of (line_style before) (line w before)) _ (row_is (line_style before) (line w before)) (tt, tt)
 prints_first w before (kind.FeedLines n) h = both (row_of (line_style before) (line w before)) _ (row_is (line_style before) (line w before)) (tt, tt)
 prints_first w before (kind.FeedUnits n) h = absurd cc
 prints_first w before (kind.Bars bars) h = both (row_and_feed (line_style before) (line w before)) _ (row_with_feed (line_style before) (line w before)) (tt, tt)
-prints_first w before (kind.Raster raster) h = both (row_and_feed (line_style before) (line w before)) _ (row_with_feed (line_style before) (line w before)) (few_rows raster.height h, tt)
+prints_first w before (kind.Raster raster) h = both (row_and_feed (line_style before) (line w before)) _ (row_with_feed (line_style before) (line w before)) (few_rows raster.height (nat_le raster.height 2047) refl h, tt)
 prints_first w before (kind.Cut cut) h = both (row_and_feed (line_style before) (line w before)) _ (row_with_feed (line_style before) (line w before)) (tt, tt)
 prints_first w before kind.Return h = tt
 prints_first w before kind.Init h = tt
@@ -58,9 +59,9 @@ prints_first w before (kind.AutomaticStatus n) h = absurd cc
 prints_first w before (kind.Status n) h = tt
 prints_first w before (kind.Mark id) h = tt
 
-after : (w : ℕ) (before cs : List Command) → AllByRecursion (λ c. IsTrue (in_first_profile c)) cs → AreFirst (over_places (λ b c following. prints w b c) before cs)
+after : (w : ℕ) (before cs : List Command) → AllByRecursion (λ c. IsTrue (in_profile 1 c)) cs → AreFirst (over_places (λ b c following. prints w b c) before cs)
 after w before [] h = tt
 after w before (c ∷ cs) h = both (prints w before c) _ (prints_first w before c h.0) (after w (before ++ c ∷ []) cs h.1)
 
-pub first_items : (w : ℕ) (cs : List Command) → AllByRecursion (λ c. IsTrue (in_first_profile c)) cs → AllByRecursion IsFirstItem (printed w cs)
+pub first_items : (w : ℕ) (cs : List Command) → AllByRecursion (λ c. IsTrue (in_profile 1 c)) cs → AllByRecursion IsFirstItem (printed w cs)
 first_items w cs h = after w [] cs h

@@ -1,12 +1,12 @@
 -- Commands of the second profile print items of the second profile.
-use Rattle.std.proofs.Common.{◌≡◌, ℕ, List, [], ◌∷◌, ◌++◌, length, ap, sym, subst, refl, Bool, true, false, cond, IsTrue}
-use Rattle.std.specs.Prelude.{nat_lt, Option, None}
+use Rattle.std.proofs.Common.{◌≡◌, ℕ, List, [], ◌∷◌, ◌++◌, length, ap, sym, subst, refl, arith, Bool, true, false, cond, IsTrue}
+use Rattle.std.specs.Prelude.{nat_le, nat_lt, Option, None}
 use Rattle.std.specs.List.{AllByRecursion}
+use Rattle.std.proofs.lemmas.Bool.Decides.{nat_tests}
 use Rattle.escpos_command.specs.declared.command.Command.{Command}
 use Rattle.escpos_command.specs.declared.command.Command.TheVariants as kind
 use Rattle.escpos_command.specs.declared.setting.SettingKind.TheVariants as sets
-use Rattle.escpos_command.specs.FirstProfile.{in_first_profile}
-use Rattle.escpos_command.specs.SecondProfile.{in_second_profile}
+use Rattle.escpos_command.specs.EarlierProfiles.{in_profile, since}
 use Rattle.escpos_command.specs.SettingTable.{table}
 use Rattle.escpos_command.specs.Settings.{stored}
 use Rattle.escpos_paper.specs.declared.cell.Cell.{Cell}
@@ -42,7 +42,7 @@ record IsSecond (w : ℕ) (cs : List Command) : Type 0 where
   cells : AreCells (line w cs)
   plain : IsPlain (line_style cs)
 
-style_stays : (s : Style) (c : Command) → IsTrue (in_second_profile c) → IsTrue (has_six_fields s) → IsTrue (has_six_fields (style_after s c))
+style_stays : (s : Style) (c : Command) → IsTrue (in_profile 2 c) → IsTrue (has_six_fields s) → IsTrue (has_six_fields (style_after s c))
 unfolding table
 style_stays s (kind.Set (sets.DoubleStrike, p)) k h = absurd cc
 style_stays s (kind.Set (sets.CharacterSet, p)) k h = absurd cc
@@ -63,7 +63,7 @@ with_one : (row : List Cell) (x : Cell) (there : Bool) → AreCells row → IsSe
 with_one row x true h k = and_one row x h k
 with_one row x false h k = (k, tt)
 
-line_stays : (w : ℕ) (s : Style) (old_data : Option (List ℕ)) (row : List Cell) (c : Command) → IsTrue (in_second_profile c) → IsTrue (has_six_fields s) → AreCells row → AreCells (line_after w s old_data row c)
+line_stays : (w : ℕ) (s : Style) (old_data : Option (List ℕ)) (row : List Cell) (c : Command) → IsTrue (in_profile 2 c) → IsTrue (has_six_fields s) → AreCells row → AreCells (line_after w s old_data row c)
 line_stays w s old_data row (kind.Char b) i h k = with_one row (cell s b) (fits w (row ++ cell s b ∷ [])) k h
 line_stays w s old_data row kind.LineFeed i h k = tt
 line_stays w s old_data row (kind.FeedLines n) i h k = tt
@@ -75,7 +75,7 @@ line_stays w s old_data row (kind.Cut how) i h k = tt
 line_stays w s old_data row kind.QrPrint i h k = absurd cc
 line_stays w s old_data row c i h k = k
 
-lines_stay : (is_line_empty : Bool) (lines : LineStyle) (c : Command) → IsTrue (in_second_profile c) → IsPlain lines → IsPlain (line_style_after is_line_empty lines c)
+lines_stay : (is_line_empty : Bool) (lines : LineStyle) (c : Command) → IsTrue (in_profile 2 c) → IsPlain lines → IsPlain (line_style_after is_line_empty lines c)
 unfolding table
 lines_stay e lines (kind.Set (sets.UpsideDown, p)) k h = absurd cc
 lines_stay e lines (kind.Set (sets.LineSpacing, p)) k h = absurd cc
@@ -89,7 +89,7 @@ lines_stay e lines kind.Init k h = record { upright = refl; default = refl }
 lines_stay true lines c k h = record { upright = h.upright; default = h.default }
 lines_stay false lines c k h = record { upright = h.upright; default = h.default }
 
-one_further : (w : ℕ) (cs : List Command) (c : Command) → IsTrue (in_second_profile c) → IsSecond w cs → IsSecond w (cs ++ c ∷ [])
+one_further : (w : ℕ) (cs : List Command) (c : Command) → IsTrue (in_profile 2 c) → IsSecond w cs → IsSecond w (cs ++ c ∷ [])
 one_further w cs c k h = record {
   six = subst (λ s. IsTrue (has_six_fields s)) (sym (style-snoc cs c)) (style_stays (style cs) c k h.six);
   cells = subst AreCells (sym (line-snoc w cs c)) (line_stays w (style cs) (stored cs) (line w cs) c k h.six h.cells);
@@ -114,7 +114,7 @@ chosen : (b : Bool) (items : List Item) → AreSecond items → AreSecond (cond 
 chosen true items h = h
 chosen false items h = tt
 
-prints_second : (w : ℕ) (before : List Command) (c : Command) → IsTrue (in_second_profile c) → IsSecond w before → AreSecond (prints w before c)
+prints_second : (w : ℕ) (before : List Command) (c : Command) → IsTrue (in_profile 2 c) → IsSecond w before → AreSecond (prints w before c)
 prints_second w before (kind.Char b) h s =
     chosen (nat_lt (length (rows w before)) (length (rows w (before ++ kind.Char b ∷ [])))) (row_and_feed (line_style before) (line w before))
     (row_with_feed (line_style before) (line w before) s.plain s.cells)
@@ -131,23 +131,23 @@ prints_second w before (kind.QrStore bytes) h s = absurd cc
 prints_second w before kind.QrPrint h s = absurd cc
 prints_second w before c h s = tt
 
-after : (w : ℕ) (before cs : List Command) → AllByRecursion (λ c. IsTrue (in_second_profile c)) cs → IsSecond w before → AreSecond (over_places (λ b c following. prints w b c) before cs)
+after : (w : ℕ) (before cs : List Command) → AllByRecursion (λ c. IsTrue (in_profile 2 c)) cs → IsSecond w before → AreSecond (over_places (λ b c following. prints w b c) before cs)
 after w before [] h s = tt
 after w before (c ∷ cs) h s = both (prints w before c) _ (prints_second w before c h.0 s) (after w (before ++ c ∷ []) cs h.1 (one_further w before c h.0 s))
 
-pub second_items : (w : ℕ) (cs : List Command) → AllByRecursion (λ c. IsTrue (in_second_profile c)) cs → AllByRecursion IsSecondItem (printed w cs)
+pub second_items : (w : ℕ) (cs : List Command) → AllByRecursion (λ c. IsTrue (in_profile 2 c)) cs → AllByRecursion IsSecondItem (printed w cs)
 second_items w cs h = after w [] cs h (record { six = refl; cells = tt; plain = record { upright = refl; default = refl } })
 
 -- The commands of the first profile are of the second.
-also_second : (c : Command) → IsTrue (in_first_profile c) → IsTrue (in_second_profile c)
-also_second (kind.FeedUnits n) h = absurd cc
-also_second (kind.Pulse pulse) h = absurd cc
-also_second (kind.Raster raster) h = refl
-also_second c h = h
+also_second : (c : Command) → IsTrue (in_profile 1 c) → IsTrue (in_profile 2 c)
+also_second c h = no_later (since c) h
+  where
+    no_later : (s : ℕ) → nat_le s 1 ≡ true → nat_le s 2 ≡ true
+    no_later s h = grind (arith, nat_tests, h)
 
-all_second : (cs : List Command) → AllByRecursion (λ c. IsTrue (in_first_profile c)) cs → AllByRecursion (λ c. IsTrue (in_second_profile c)) cs
+all_second : (cs : List Command) → AllByRecursion (λ c. IsTrue (in_profile 1 c)) cs → AllByRecursion (λ c. IsTrue (in_profile 2 c)) cs
 all_second [] h = tt
 all_second (c ∷ cs) h = (also_second c h.0, all_second cs h.1)
 
-pub items_of_first : (w : ℕ) (cs : List Command) → AllByRecursion (λ c. IsTrue (in_first_profile c)) cs → AllByRecursion IsSecondItem (printed w cs)
+pub items_of_first : (w : ℕ) (cs : List Command) → AllByRecursion (λ c. IsTrue (in_profile 1 c)) cs → AllByRecursion IsSecondItem (printed w cs)
 items_of_first w cs h = second_items w cs (all_second cs h)

@@ -8,8 +8,7 @@ ghost use Rattle.escpos_paper.specs.declared.cell.Cell.{Cell};
 ghost use Rattle.escpos_paper.specs.declared.item.Item.{Item};
 ghost use Rattle.escpos_paper.specs.declared.item.Item.TheVariants.{Feed};
 ghost use Rattle.std.specs.List.{AllByRecursion};
-ghost use Rattle.escpos_command.specs.FirstProfile.{in_first_profile};
-ghost use Rattle.escpos_command.specs.SecondProfile.{in_second_profile};
+ghost use Rattle.escpos_command.specs.EarlierProfiles.{in_profile};
 ghost use Rattle.escpos_command.specs.Text.{text};
 ghost use Rattle.escpos_paper.specs.FirstPaper.{IsFirstItem};
 ghost use Rattle.escpos_paper.specs.SecondPaper.{IsSecondItem};
@@ -94,12 +93,12 @@ pub fn one_check_digit()
 /// The first profile prints nothing that it hasn't: no feed of motion units, no raster of more than 2,047 rows, and nothing that
 /// the second hasn't.
 pub fn first_profile()
-    ensures first { (width : ℕ) (cs : List Command) → AllByRecursion (λ c. IsTrue (in_first_profile c)) cs → AllByRecursion IsFirstItem (printed width cs) }
-    ensures second { (width : ℕ) (cs : List Command) → AllByRecursion (λ c. IsTrue (in_first_profile c)) cs → AllByRecursion IsSecondItem (printed width cs) }
+    ensures first { (width : ℕ) (cs : List Command) → AllByRecursion (λ c. IsTrue (in_profile 1 c)) cs → AllByRecursion IsFirstItem (printed width cs) }
+    ensures second { (width : ℕ) (cs : List Command) → AllByRecursion (λ c. IsTrue (in_profile 1 c)) cs → AllByRecursion IsSecondItem (printed width cs) }
 {}
 
 /// The second profile prints nothing that it hasn't: no line upside down, no feed with a spacing, and only characters whose
 /// strike, reverse and character set are as at power on.
 pub fn second_profile()
-    ensures { (width : ℕ) (cs : List Command) → AllByRecursion (λ c. IsTrue (in_second_profile c)) cs → AllByRecursion IsSecondItem (printed width cs) }
+    ensures { (width : ℕ) (cs : List Command) → AllByRecursion (λ c. IsTrue (in_profile 2 c)) cs → AllByRecursion IsSecondItem (printed width cs) }
 {}

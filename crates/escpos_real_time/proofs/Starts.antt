@@ -1,5 +1,5 @@
 -- The byte that a command begins with.
-use Rattle.std.specs.Prelude.{◌==◌, ◌||◌}
+use Rattle.std.specs.Prelude.{◌==◌, ◌&&◌, not, nat_le}
 use Rattle.std.proofs.Common.{◌≡◌, ◌≢◌, ◌≤◌, ◌⊎◌, inl, inr, Bool, true, false, ℕ, IsTrue, List, [], ◌∷◌, ◌++◌, refl, sym, ◌∙◌, ap, subst, append-nil, arith}
 use Rattle.std.proofs.lemmas.Bool.Decides.{nat_tests}
 use Rattle.std.proofs.lemmas.Grind.{flat_map-append}
@@ -9,8 +9,7 @@ use Rattle.escpos_command.specs.declared.command.Command.TheVariants as kind
 use Rattle.escpos_command.specs.declared.setting.SettingKind.{SettingKind}
 use Rattle.escpos_command.specs.CommandTable.{IsCommand, row, spell}
 use Rattle.escpos_command.specs.SettingTable.{table, number, blank, row_for}
-use Rattle.escpos_command.proofs.Combinators.{same_number}
-use Rattle.escpos_command.proofs.SettingFacts.{is_table, two_first}
+use Rattle.escpos_command.proofs.SettingFacts.{is_table, firsts}
 use Rattle.escpos_command.proofs.SettingRows.{all_at, covered}
 use Rattle.escpos_command.specs.Parameters.{is_character}
 use Rattle.escpos_real_time.specs.RealTime.{HoldsRealTime}
@@ -49,18 +48,14 @@ line_feed_starts = starts LF [] (omega arith, λ e. omega (arith, e))
 pub escape_starts : (bytes : List ℕ) → Starts (ESC ∷ bytes)
 escape_starts bytes = starts ESC bytes esc
 
-either : (a b : Bool) → (a || b) ≡ true → (a ≡ true) ⊎ (b ≡ true)
-either true b h = inl refl
-either false b h = inr h
+is_start : (b : ℕ) → (nat_le 9 b && not (b == 20)) ≡ true → IsStart b
+is_start b h =
+    let large : 9 ≤ b = grind (arith, nat_tests, h) in
+    let other : b ≢ 20 = grind (arith, nat_tests, h) in
+    (large, other)
 
--- Each setting begins with ESC or GS.
 first_is_start : (which : SettingKind) → IsStart (row_for table which).first
-first_is_start which =
-    let r = row_for table which in
-    elim (either (r.first == ESC) (r.first == GS) (all_at (λ s. s.first == ESC || s.first == GS) table (number which) blank two_first (covered table is_table which))) [
-      | inl e ↦ subst IsStart (sym (same_number r.first ESC e)) esc
-      | inr e ↦ subst IsStart (sym (same_number r.first GS e)) gs
-    ]
+first_is_start which = is_start (row_for table which).first (all_at (λ r. nat_le 9 r.first && not (r.first == 20)) table (number which) blank firsts (covered table is_table which))
 
 pub command_starts : (c : Command) → IsCommand c → Starts (row c)
 command_starts (kind.Char b) h = starts b _ (character_start b h)

@@ -4,9 +4,9 @@
 //! decoder. The tests compare the two.
 
 use escpos_command::{
-    Bars, CR, Character, Command, Cut, DLE, EOT, ESC, FaultReason, FeedLines, FeedUnits, Form, GS,
-    LF, MarkId, Pulse, QrData, QrLevel, QrModel, QrSize, Raster, Reporting, Setting, SettingKind,
-    StatusKind, Symbology,
+    Bars, CR, Character, Command, Cut, DLE, EOT, ESC, FaultReason, FeedLines, FeedUnits, Form,
+    GS, LF, MarkId, Pulse, QrData, QrLevel, QrModel, QrSize, Raster, Reporting, Setting,
+    SettingKind, StatusKind, Symbology,
 };
 use std::alloc::Global;
 use std::process::Abort;
@@ -56,16 +56,18 @@ fn set(rt: &impl Abort, kind: SettingKind, parameter: u8) -> Command {
     Command::set(kind, parameter).expect(rt, "a parameter")
 }
 
+// The command that sets this, and has no parameter.
+fn alone(rt: &impl Abort, kind: SettingKind) -> Command {
+    Command::Set(Setting::new(kind, None).expect(rt, "a setting"))
+}
+
 // The command that these bytes spell after ESC.
 fn spelled_by_escape(rt: &impl Abort, rest: &[u8]) -> Option<Command> {
     Some(match rest {
         b"@" => Command::Init,
         [b'!', n] => set(rt, SettingKind::Mode, *n),
         [b'-', n @ (0..=2 | 48..=50)] => set(rt, SettingKind::Underline, *n),
-        b"2" => Command::Set(Setting::new(SettingKind::DefaultSpacing, None).expect(
-            rt,
-            "a setting",
-        )),
+        b"2" => alone(rt, SettingKind::DefaultSpacing),
         [b'3', n] => set(rt, SettingKind::LineSpacing, *n),
         [b'E', n] => set(rt, SettingKind::Emphasis, *n),
         [b'G', n] => set(rt, SettingKind::DoubleStrike, *n),

@@ -26,12 +26,3 @@ pub returns-in-Some : goal.returns-in-Some
 returns-in-Some c = λ read.
     let whole = c.in-Some.ensures in
     (ends state.Start read c.args.byte c.args.byte (kind.Char c.args.byte) refl (at_start read) (leads_character c.args.byte whole.0) ∙ ap (λ b. leaf (kind.Char b)) (sym whole.1), refl)
-
-pub returns-in-None : goal.returns-in-None
-returns-in-None c = λ read.
-    let lf : c.args.byte ≢ 10 = search rules in
-    let cr : c.args.byte ≢ 13 = search rules in
-    let dle : c.args.byte ≢ 16 = search rules in
-    let esc : c.args.byte ≢ 27 = search rules in
-    let gs : c.args.byte ≢ 29 = search rules in
-    no_first c.args.byte lf cr dle esc gs c.in-None.ensures read
