@@ -30,6 +30,7 @@ WITH_BYTE = {
     "hriplace": (b"\x1dH", (0, 1, 2, 3, 48, 49, 50, 51)),
     "cut": (b"\x1dV", (0, 1, 48, 49)),
     "smooth": (b"\x1db", range(256)),
+    "unidirectional": (b"\x1bU", range(256)),
     "hrifont": (b"\x1df", (0, 1, 48, 49)),
     "barheight": (b"\x1dh", range(1, 256)),
     "barwidth": (b"\x1dw", range(2, 7)),

@@ -76,6 +76,8 @@ pub enum SettingKind {
     HriPlace,
     /// The font of that interpretation. (Reference: GS f.)
     HriFont,
+    /// Printing in one direction, which has no effect. (Reference: ESC U.)
+    Unidirectional,
 }
 
 /// A row of the table.
@@ -116,6 +118,7 @@ macro_rules! settings {
             BarWidth, GS, b'w', None, BarWidth, 1, "barwidth";
             HriPlace, GS, b'H', None, OneOfFour, 1, "hriplace";
             HriFont, GS, b'f', None, OneOfTwo, 1, "hrifont";
+            Unidirectional, ESC, b'U', None, Byte, 4, "unidirectional";
         }
     };
 }

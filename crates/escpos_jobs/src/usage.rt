@@ -107,7 +107,7 @@ line `memory` says that the program ran out of memory.
           1B 52     ESC R   taken
           1B 53     ESC S   refused: page mode
           1B 54     ESC T   refused: page mode
-          1B 55     ESC U   refused: the way of the print head
+          1B 55     ESC U   taken, with no effect
           1B 56     ESC V   refused: turned characters
           1B 57     ESC W   refused: page mode
           1B 5C     ESC \\   refused: positions in the line

@@ -158,7 +158,8 @@ impl Paper {
             SettingKind::BarWidth => self.settings.bars.module_width = value,
             SettingKind::HriPlace => self.settings.bars.place = hri_position_of(choice(value)),
             SettingKind::HriFont => self.settings.bars.hri_font = face_of(choice(value)),
-            SettingKind::Smoothing => {}
+            SettingKind::Smoothing
+            | SettingKind::Unidirectional => {}
         }
     }
 

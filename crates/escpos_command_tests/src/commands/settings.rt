@@ -14,7 +14,7 @@ type Row = (
     &'static str,
 );
 
-const REFERENCE: [Row; 17] = [
+const REFERENCE: [Row; 18] = [
     (SettingKind::Mode, &[0x1B, 0x21], &[0, 255], &[], "mode"),
     (
         SettingKind::Emphasis,
@@ -121,6 +121,13 @@ const REFERENCE: [Row; 17] = [
         &[0, 1, 48, 49],
         &[2, 47, 50],
         "hrifont",
+    ),
+    (
+        SettingKind::Unidirectional,
+        &[0x1B, 0x55],
+        &[0, 255],
+        &[],
+        "unidirectional",
     ),
 ];
 

@@ -58,12 +58,17 @@ fn every_byte_in_qr_codes(rt: HostRuntime) {
 }
 
 #[test]
+fn every_byte_in_settings_with_no_effect(rt: HostRuntime) {
+    every_byte_follows(&rt, rt.alloc(), 50, 51);
+}
+
+#[test]
 fn all_spellings_in_one_stream(rt: HostRuntime) {
     let mut stream = Vec::new(rt.alloc());
     for spelling in spellings() {
         stream.extend_from_slice(spelling).expect(&rt, "memory");
     }
-    assert!(&rt; spellings().len() == 50);
+    assert!(&rt; spellings().len() == 51);
     agrees(&rt, rt.alloc(), &stream);
 }
 
