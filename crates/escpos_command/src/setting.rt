@@ -78,6 +78,8 @@ pub enum SettingKind {
     HriFont,
     /// Printing in one direction, which has no effect. (Reference: ESC U.)
     Unidirectional,
+    /// The print head's way home, which has no effect. (Reference: ESC <.)
+    Home,
 }
 
 /// A row of the table.
@@ -119,6 +121,7 @@ macro_rules! settings {
             HriPlace, GS, b'H', None, OneOfFour, 1, "hriplace";
             HriFont, GS, b'f', None, OneOfTwo, 1, "hrifont";
             Unidirectional, ESC, b'U', None, Byte, 4, "unidirectional";
+            Home, ESC, b'<', None, Nothing, 4, "home";
         }
     };
 }

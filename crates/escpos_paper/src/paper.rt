@@ -159,7 +159,8 @@ impl Paper {
             SettingKind::HriPlace => self.settings.bars.place = hri_position_of(choice(value)),
             SettingKind::HriFont => self.settings.bars.hri_font = face_of(choice(value)),
             SettingKind::Smoothing
-            | SettingKind::Unidirectional => {}
+            | SettingKind::Unidirectional
+            | SettingKind::Home => {}
         }
     }
 

@@ -1,7 +1,7 @@
 //! The command table, a spelling for each row.
 
 // A spelling of each row of the command table, with a barcode of each symbology in each form.
-const SPELLINGS: [&[u8]; 51] = [
+const SPELLINGS: [&[u8]; 52] = [
     b"A",
     b"\x0A",
     b"\x0D",
@@ -53,6 +53,7 @@ const SPELLINGS: [&[u8]; 51] = [
     b"\x1D(k\x06\x001P0\x1B@\x00",
     b"\x1D(k\x03\x001Q0",
     b"\x1BU\x01",
+    b"\x1B<",
 ];
 
 /// A spelling of each row of the command table, with a barcode of each symbology in each form.

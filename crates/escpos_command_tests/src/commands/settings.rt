@@ -132,12 +132,13 @@ const REFERENCE: [Row; 18] = [
 ];
 
 // Those that have no parameter.
-const ALONE: [(SettingKind, &'static [u8], &'static str); 1] = [
+const ALONE: [(SettingKind, &'static [u8], &'static str); 2] = [
     (
         SettingKind::DefaultSpacing,
         &[0x1B, 0x32],
         "spacing default",
     ),
+    (SettingKind::Home, &[0x1B, 0x3C], "home"),
 ];
 
 // The command is spelled so, with this parameter after it, if one is given.

@@ -68,6 +68,7 @@ fn spelled_by_escape(rt: &impl Abort, rest: &[u8]) -> Option<Command> {
         [b'!', n] => set(rt, SettingKind::Mode, *n),
         [b'-', n @ (0..=2 | 48..=50)] => set(rt, SettingKind::Underline, *n),
         b"2" => alone(rt, SettingKind::DefaultSpacing),
+        b"<" => alone(rt, SettingKind::Home),
         [b'U', n] => set(rt, SettingKind::Unidirectional, *n),
         [b'3', n] => set(rt, SettingKind::LineSpacing, *n),
         [b'E', n] => set(rt, SettingKind::Emphasis, *n),
