@@ -31,6 +31,7 @@ WITH_BYTE = {
     "cut": (b"\x1dV", (0, 1, 48, 49)),
     "smooth": (b"\x1db", range(256)),
     "unidirectional": (b"\x1bU", range(256)),
+    "devices": (b"\x1b=", range(256)),
     "hrifont": (b"\x1df", (0, 1, 48, 49)),
     "barheight": (b"\x1dh", range(1, 256)),
     "barwidth": (b"\x1dw", range(2, 7)),

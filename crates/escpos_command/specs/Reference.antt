@@ -46,6 +46,7 @@ reference sets.HriPlace = setting_of (GS ∷ 0x48 ∷ []) (passes is_one_of_four
 reference sets.HriFont = setting_of (GS ∷ 0x66 ∷ []) (passes is_one_of_two) (codes "hrifont")  -- GS f
 reference sets.Unidirectional = setting_of (ESC ∷ 0x55 ∷ []) (passes is_byte) (codes "unidirectional")  -- ESC U
 reference sets.Home = setting_of (ESC ∷ 0x3C ∷ []) alone (codes "home")  -- ESC <
+reference sets.Devices = setting_of (ESC ∷ 0x3D ∷ []) (passes is_byte) (codes "devices")  -- ESC =
 
 -- The name that programs print.
 abbrev pub name_of : SettingKind → List ℕ

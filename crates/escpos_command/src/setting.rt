@@ -80,6 +80,8 @@ pub enum SettingKind {
     Unidirectional,
     /// The print head's way home, which has no effect. (Reference: ESC <.)
     Home,
+    /// Which devices take what follows, which has no effect: there is no other than the printer. (Reference: ESC =.)
+    Devices,
 }
 
 /// A row of the table.
@@ -122,6 +124,7 @@ macro_rules! settings {
             HriFont, GS, b'f', None, OneOfTwo, 1, "hrifont";
             Unidirectional, ESC, b'U', None, Byte, 4, "unidirectional";
             Home, ESC, b'<', None, Nothing, 4, "home";
+            Devices, ESC, b'=', None, Byte, 4, "devices";
         }
     };
 }

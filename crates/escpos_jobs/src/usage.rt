@@ -94,7 +94,7 @@ line `memory` says that the program ran out of memory.
           1B 32     ESC 2   taken
           1B 33     ESC 3   taken
           1B 3C     ESC <   taken, with no effect
-          1B 3D     ESC =   refused: a choice of device
+          1B 3D     ESC =   taken, with no effect
           1B 3F     ESC ?   refused: characters that the host defines
           1B 40     ESC @   taken
           1B 44     ESC D   refused: tab stops

@@ -160,7 +160,8 @@ impl Paper {
             SettingKind::HriFont => self.settings.bars.hri_font = face_of(choice(value)),
             SettingKind::Smoothing
             | SettingKind::Unidirectional
-            | SettingKind::Home => {}
+            | SettingKind::Home
+            | SettingKind::Devices => {}
         }
     }
 

@@ -1,7 +1,7 @@
 //! The command table, a spelling for each row.
 
 // A spelling of each row of the command table, with a barcode of each symbology in each form.
-const SPELLINGS: [&[u8]; 52] = [
+const SPELLINGS: [&[u8]; 53] = [
     b"A",
     b"\x0A",
     b"\x0D",
@@ -54,6 +54,7 @@ const SPELLINGS: [&[u8]; 52] = [
     b"\x1D(k\x03\x001Q0",
     b"\x1BU\x01",
     b"\x1B<",
+    b"\x1B=\x01",
 ];
 
 /// A spelling of each row of the command table, with a barcode of each symbology in each form.

@@ -14,7 +14,7 @@ type Row = (
     &'static str,
 );
 
-const REFERENCE: [Row; 18] = [
+const REFERENCE: [Row; 19] = [
     (SettingKind::Mode, &[0x1B, 0x21], &[0, 255], &[], "mode"),
     (
         SettingKind::Emphasis,
@@ -128,6 +128,13 @@ const REFERENCE: [Row; 18] = [
         &[0, 255],
         &[],
         "unidirectional",
+    ),
+    (
+        SettingKind::Devices,
+        &[0x1B, 0x3D],
+        &[0, 255],
+        &[],
+        "devices",
     ),
 ];
 
