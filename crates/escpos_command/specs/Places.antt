@@ -1,6 +1,6 @@
 -- Places of faults: the reason for which a byte is refused follows from the bytes of its command before it.
 use Rattle.std.specs.Prelude.{ℕ, Bool, List, [], ◌∷◌, ◌==◌, ◌&&◌, ◌||◌, length, if◌then◌else◌, codes}
-use Rattle.escpos_command.specs.declared.bytes.TheConstants.{GS}
+use Rattle.escpos_command.specs.declared.bytes.TheConstants.{ESC, GS}
 use Rattle.escpos_command.specs.declared.fault.FaultReason.{FaultReason}
 use Rattle.escpos_command.specs.declared.fault.FaultReason.TheVariants.{UnknownByte, UnknownCommand, BadParameter, BadBarcode, BadSize}
 
@@ -11,9 +11,9 @@ begins_barcode b letter = b == GS && letter == 0x6B
 abbrev pub begins_raster : ℕ → ℕ → Bool
 begins_raster b letter = b == GS && letter == 0x76
 
--- GS ( and GS v take a second letter.
+-- GS (, GS v and ESC c take a second letter.
 abbrev pub has_second_letter : ℕ → ℕ → Bool
-has_second_letter b letter = b == GS && letter == 0x28 || begins_raster b letter
+has_second_letter b letter = b == GS && letter == 0x28 || begins_raster b letter || b == ESC && letter == 0x63
 
 -- GS ( k begins a function of QR codes, which after the length has two further letters, cn and fn.
 abbrev pub names_function : ℕ → ℕ → ℕ → List ℕ → Bool
@@ -25,7 +25,7 @@ abbrev pub reason_after : List ℕ → FaultReason
 reason_after [] = UnknownByte
 -- the letter after DLE, ESC, FS or GS
 reason_after (b ∷ []) = UnknownCommand
--- the second letter after GS ( or GS v, or a parameter
+-- the second letter after GS (, GS v or ESC c, or a parameter
 reason_after (b ∷ letter ∷ []) = if has_second_letter b letter then UnknownCommand else BadParameter
 -- the length or the content of a barcode; the scale of a raster; or a later parameter, a fixed byte of a mark or its id
 reason_after (b ∷ letter ∷ third ∷ []) = if begins_barcode b letter then BadBarcode else BadParameter

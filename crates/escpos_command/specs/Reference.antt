@@ -47,6 +47,7 @@ reference sets.HriFont = setting_of (GS ∷ 0x66 ∷ []) (passes is_one_of_two) 
 reference sets.Unidirectional = setting_of (ESC ∷ 0x55 ∷ []) (passes is_byte) (codes "unidirectional")  -- ESC U
 reference sets.Home = setting_of (ESC ∷ 0x3C ∷ []) alone (codes "home")  -- ESC <
 reference sets.Devices = setting_of (ESC ∷ 0x3D ∷ []) (passes is_byte) (codes "devices")  -- ESC =
+reference sets.EndSensors = setting_of (ESC ∷ 0x63 ∷ 0x33 ∷ []) (passes is_byte) (codes "endsensors")  -- ESC c 3
 
 -- The name that programs print.
 abbrev pub name_of : SettingKind → List ℕ

@@ -82,6 +82,8 @@ pub enum SettingKind {
     Home,
     /// Which devices take what follows, which has no effect: there is no other than the printer. (Reference: ESC =.)
     Devices,
+    /// Which paper sensors tell of the paper's end by a signal, which has no effect. (Reference: ESC c 3.)
+    EndSensors,
 }
 
 /// A row of the table.
@@ -125,6 +127,7 @@ macro_rules! settings {
             Unidirectional, ESC, b'U', None, Byte, 4, "unidirectional";
             Home, ESC, b'<', None, Nothing, 4, "home";
             Devices, ESC, b'=', None, Byte, 4, "devices";
+            EndSensors, ESC, b'c', (Some(b'3')), Byte, 4, "endsensors";
         }
     };
 }

@@ -161,7 +161,8 @@ impl Paper {
             SettingKind::Smoothing
             | SettingKind::Unidirectional
             | SettingKind::Home
-            | SettingKind::Devices => {}
+            | SettingKind::Devices
+            | SettingKind::EndSensors => {}
         }
     }
 

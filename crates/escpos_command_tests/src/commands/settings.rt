@@ -14,7 +14,7 @@ type Row = (
     &'static str,
 );
 
-const REFERENCE: [Row; 19] = [
+const REFERENCE: [Row; 20] = [
     (SettingKind::Mode, &[0x1B, 0x21], &[0, 255], &[], "mode"),
     (
         SettingKind::Emphasis,
@@ -135,6 +135,13 @@ const REFERENCE: [Row; 19] = [
         &[0, 255],
         &[],
         "devices",
+    ),
+    (
+        SettingKind::EndSensors,
+        &[0x1B, 0x63, 0x33],
+        &[0, 255],
+        &[],
+        "endsensors",
     ),
 ];
 

@@ -71,6 +71,7 @@ fn spelled_by_escape(rt: &impl Abort, rest: &[u8]) -> Option<Command> {
         b"<" => alone(rt, SettingKind::Home),
         [b'=', n] => set(rt, SettingKind::Devices, *n),
         [b'U', n] => set(rt, SettingKind::Unidirectional, *n),
+        [b'c', b'3', n] => set(rt, SettingKind::EndSensors, *n),
         [b'3', n] => set(rt, SettingKind::LineSpacing, *n),
         [b'E', n] => set(rt, SettingKind::Emphasis, *n),
         [b'G', n] => set(rt, SettingKind::DoubleStrike, *n),
@@ -175,7 +176,7 @@ fn begins_after_escape(rest: &[u8]) -> bool {
         [] => true,
         [b'!' | b'-' | b'3' | b'E' | b'G' | b'M' | b'R'] => true,
         [b'a' | b'J' | b'd' | b'p' | b't' | b'{'] => true,
-        [b'=' | b'U'] => true,
+        [b'=' | b'U' | b'c'] | [b'c', b'3'] => true,
         [b'p', 0 | 1 | 48 | 49] => true,
         [b'p', 0 | 1 | 48 | 49, _] => true,
         _ => false,
@@ -219,7 +220,7 @@ fn begins_qr(rest: &[u8]) -> bool {
 fn reason_after(before: &[u8]) -> FaultReason {
     match before {
         [] => FaultReason::UnknownByte,
-        [_] | [GS, b'(' | b'v'] => FaultReason::UnknownCommand,
+        [_] | [GS, b'(' | b'v'] | [ESC, b'c'] => FaultReason::UnknownCommand,
         // cn and fn
         [GS, b'(', b'k', _, _] | [GS, b'(', b'k', _, _, _] => FaultReason::UnknownCommand,
         [GS, b'k', _, ..] => FaultReason::BadBarcode,
