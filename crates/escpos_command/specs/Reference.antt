@@ -48,6 +48,7 @@ reference sets.Unidirectional = setting_of (ESC ∷ 0x55 ∷ []) (passes is_byte
 reference sets.Home = setting_of (ESC ∷ 0x3C ∷ []) alone (codes "home")  -- ESC <
 reference sets.Devices = setting_of (ESC ∷ 0x3D ∷ []) (passes is_byte) (codes "devices")  -- ESC =
 reference sets.EndSensors = setting_of (ESC ∷ 0x63 ∷ 0x33 ∷ []) (passes is_byte) (codes "endsensors")  -- ESC c 3
+reference sets.StopSensors = setting_of (ESC ∷ 0x63 ∷ 0x34 ∷ []) (passes is_byte) (codes "stopsensors")  -- ESC c 4
 
 -- The name that programs print.
 abbrev pub name_of : SettingKind → List ℕ

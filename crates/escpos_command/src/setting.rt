@@ -84,6 +84,8 @@ pub enum SettingKind {
     Devices,
     /// Which paper sensors tell of the paper's end by a signal, which has no effect. (Reference: ESC c 3.)
     EndSensors,
+    /// Which paper sensors stop the printer, which has no effect. (Reference: ESC c 4.)
+    StopSensors,
 }
 
 /// A row of the table.
@@ -128,6 +130,7 @@ macro_rules! settings {
             Home, ESC, b'<', None, Nothing, 4, "home";
             Devices, ESC, b'=', None, Byte, 4, "devices";
             EndSensors, ESC, b'c', (Some(b'3')), Byte, 4, "endsensors";
+            StopSensors, ESC, b'c', (Some(b'4')), Byte, 4, "stopsensors";
         }
     };
 }

@@ -162,7 +162,8 @@ impl Paper {
             | SettingKind::Unidirectional
             | SettingKind::Home
             | SettingKind::Devices
-            | SettingKind::EndSensors => {}
+            | SettingKind::EndSensors
+            | SettingKind::StopSensors => {}
         }
     }
 

@@ -14,7 +14,7 @@ type Row = (
     &'static str,
 );
 
-const REFERENCE: [Row; 20] = [
+const REFERENCE: [Row; 21] = [
     (SettingKind::Mode, &[0x1B, 0x21], &[0, 255], &[], "mode"),
     (
         SettingKind::Emphasis,
@@ -142,6 +142,13 @@ const REFERENCE: [Row; 20] = [
         &[0, 255],
         &[],
         "endsensors",
+    ),
+    (
+        SettingKind::StopSensors,
+        &[0x1B, 0x63, 0x34],
+        &[0, 255],
+        &[],
+        "stopsensors",
     ),
 ];
 
