@@ -34,6 +34,7 @@ WITH_BYTE = {
     "devices": (b"\x1b=", range(256)),
     "endsensors": (b"\x1bc3", range(256)),
     "stopsensors": (b"\x1bc4", range(256)),
+    "buttons": (b"\x1bc5", range(256)),
     "hrifont": (b"\x1df", (0, 1, 48, 49)),
     "barheight": (b"\x1dh", range(1, 256)),
     "barwidth": (b"\x1dw", range(2, 7)),

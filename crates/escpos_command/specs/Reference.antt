@@ -49,6 +49,7 @@ reference sets.Home = setting_of (ESC ∷ 0x3C ∷ []) alone (codes "home")  -- 
 reference sets.Devices = setting_of (ESC ∷ 0x3D ∷ []) (passes is_byte) (codes "devices")  -- ESC =
 reference sets.EndSensors = setting_of (ESC ∷ 0x63 ∷ 0x33 ∷ []) (passes is_byte) (codes "endsensors")  -- ESC c 3
 reference sets.StopSensors = setting_of (ESC ∷ 0x63 ∷ 0x34 ∷ []) (passes is_byte) (codes "stopsensors")  -- ESC c 4
+reference sets.PanelButtons = setting_of (ESC ∷ 0x63 ∷ 0x35 ∷ []) (passes is_byte) (codes "buttons")  -- ESC c 5
 
 -- The name that programs print.
 abbrev pub name_of : SettingKind → List ℕ

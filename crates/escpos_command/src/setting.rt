@@ -86,6 +86,8 @@ pub enum SettingKind {
     EndSensors,
     /// Which paper sensors stop the printer, which has no effect. (Reference: ESC c 4.)
     StopSensors,
+    /// Whether the buttons of the panel do something, which has no effect. (Reference: ESC c 5.)
+    PanelButtons,
 }
 
 /// A row of the table.
@@ -131,6 +133,7 @@ macro_rules! settings {
             Devices, ESC, b'=', None, Byte, 4, "devices";
             EndSensors, ESC, b'c', (Some(b'3')), Byte, 4, "endsensors";
             StopSensors, ESC, b'c', (Some(b'4')), Byte, 4, "stopsensors";
+            PanelButtons, ESC, b'c', (Some(b'5')), Byte, 4, "buttons";
         }
     };
 }

@@ -112,7 +112,7 @@ line `memory` says that the program ran out of memory.
           1B 57     ESC W   refused: page mode
           1B 5C     ESC \\   refused: positions in the line
           1B 61     ESC a   taken
-          1B 63     ESC c   taken, with no effect: 3 and 4
+          1B 63     ESC c   taken, with no effect: 3, 4 and 5
           1B 64     ESC d   taken
           1B 65     ESC e   refused: feeds backwards
           1B 69     ESC i   refused: an older form of a cut; GS V is taken

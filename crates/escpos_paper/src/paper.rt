@@ -163,7 +163,8 @@ impl Paper {
             | SettingKind::Home
             | SettingKind::Devices
             | SettingKind::EndSensors
-            | SettingKind::StopSensors => {}
+            | SettingKind::StopSensors
+            | SettingKind::PanelButtons => {}
         }
     }
 

@@ -1,7 +1,7 @@
 //! The command table, a spelling for each row.
 
 // A spelling of each row of the command table, with a barcode of each symbology in each form.
-const SPELLINGS: [&[u8]; 55] = [
+const SPELLINGS: [&[u8]; 56] = [
     b"A",
     b"\x0A",
     b"\x0D",
@@ -57,6 +57,7 @@ const SPELLINGS: [&[u8]; 55] = [
     b"\x1B=\x01",
     b"\x1Bc3\x00",
     b"\x1Bc4\x00",
+    b"\x1Bc5\x00",
 ];
 
 /// A spelling of each row of the command table, with a barcode of each symbology in each form.

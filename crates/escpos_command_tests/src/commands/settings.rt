@@ -14,7 +14,7 @@ type Row = (
     &'static str,
 );
 
-const REFERENCE: [Row; 21] = [
+const REFERENCE: [Row; 22] = [
     (SettingKind::Mode, &[0x1B, 0x21], &[0, 255], &[], "mode"),
     (
         SettingKind::Emphasis,
@@ -149,6 +149,13 @@ const REFERENCE: [Row; 21] = [
         &[0, 255],
         &[],
         "stopsensors",
+    ),
+    (
+        SettingKind::PanelButtons,
+        &[0x1B, 0x63, 0x35],
+        &[0, 255],
+        &[],
+        "buttons",
     ),
 ];
 

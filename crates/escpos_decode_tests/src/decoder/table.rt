@@ -59,7 +59,7 @@ fn every_byte_in_qr_codes(rt: HostRuntime) {
 
 #[test]
 fn every_byte_in_settings_with_no_effect(rt: HostRuntime) {
-    every_byte_follows(&rt, rt.alloc(), 50, 55);
+    every_byte_follows(&rt, rt.alloc(), 50, 56);
 }
 
 #[test]
@@ -68,7 +68,7 @@ fn all_spellings_in_one_stream(rt: HostRuntime) {
     for spelling in spellings() {
         stream.extend_from_slice(spelling).expect(&rt, "memory");
     }
-    assert!(&rt; spellings().len() == 55);
+    assert!(&rt; spellings().len() == 56);
     agrees(&rt, rt.alloc(), &stream);
 }
 
