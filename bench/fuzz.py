@@ -10,7 +10,7 @@ from text import Encoding, NoCharacter
 MARKS = 36**4
 
 # Commands of one spelling; and those of fixed bytes with one parameter byte, with what that may be.
-PLAIN = {"lf": b"\n", "cr": b"\r", "init": b"\x1b@", "spacing default": b"\x1b2", "home": b"\x1b<", "qrprint": b"\x1d(k\x03\x001Q0"}
+PLAIN = {"lf": b"\n", "cr": b"\r", "init": b"\x1b@", "spacing default": b"\x1b2", "home": b"\x1b<", "kanji off": b"\x1c.", "qrprint": b"\x1d(k\x03\x001Q0"}
 WITH_BYTE = {
     "char": (b"", range(32, 256)),
     "mode": (b"\x1b!", range(256)),

@@ -50,6 +50,7 @@ reference sets.Devices = setting_of (ESC ∷ 0x3D ∷ []) (passes is_byte) (code
 reference sets.EndSensors = setting_of (ESC ∷ 0x63 ∷ 0x33 ∷ []) (passes is_byte) (codes "endsensors")  -- ESC c 3
 reference sets.StopSensors = setting_of (ESC ∷ 0x63 ∷ 0x34 ∷ []) (passes is_byte) (codes "stopsensors")  -- ESC c 4
 reference sets.PanelButtons = setting_of (ESC ∷ 0x63 ∷ 0x35 ∷ []) (passes is_byte) (codes "buttons")  -- ESC c 5
+reference sets.KanjiOff = setting_of (FS ∷ 0x2E ∷ []) alone (codes "kanji off")  -- FS .
 
 -- The name that programs print.
 abbrev pub name_of : SettingKind → List ℕ

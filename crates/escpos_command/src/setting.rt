@@ -88,6 +88,8 @@ pub enum SettingKind {
     StopSensors,
     /// Whether the buttons of the panel do something, which has no effect. (Reference: ESC c 5.)
     PanelButtons,
+    /// The end of Kanji mode, in which this printer never is. (Reference: FS .)
+    KanjiOff,
 }
 
 /// A row of the table.
@@ -134,6 +136,7 @@ macro_rules! settings {
             EndSensors, ESC, b'c', (Some(b'3')), Byte, 4, "endsensors";
             StopSensors, ESC, b'c', (Some(b'4')), Byte, 4, "stopsensors";
             PanelButtons, ESC, b'c', (Some(b'5')), Byte, 4, "buttons";
+            KanjiOff, FS, b'.', None, Nothing, 4, "kanji off";
         }
     };
 }

@@ -124,6 +124,7 @@ line `memory` says that the program ran out of memory.
           1B 76     ESC v   refused: a status request; DLE EOT is taken
           1B 7B     ESC {   taken
           1C        FS      refused: Kanji characters, images that are kept
+          1C 2E     FS .    taken, with no effect
           1D 21     GS !    taken
           1D 24     GS $    refused: page mode
           1D 28 41  GS ( A  refused: a test print of the machine

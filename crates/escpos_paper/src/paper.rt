@@ -164,7 +164,8 @@ impl Paper {
             | SettingKind::Devices
             | SettingKind::EndSensors
             | SettingKind::StopSensors
-            | SettingKind::PanelButtons => {}
+            | SettingKind::PanelButtons
+            | SettingKind::KanjiOff => {}
         }
     }
 

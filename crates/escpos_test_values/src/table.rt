@@ -1,7 +1,7 @@
 //! The command table, a spelling for each row.
 
 // A spelling of each row of the command table, with a barcode of each symbology in each form.
-const SPELLINGS: [&[u8]; 56] = [
+const SPELLINGS: [&[u8]; 57] = [
     b"A",
     b"\x0A",
     b"\x0D",
@@ -58,6 +58,7 @@ const SPELLINGS: [&[u8]; 56] = [
     b"\x1Bc3\x00",
     b"\x1Bc4\x00",
     b"\x1Bc5\x00",
+    b"\x1C.",
 ];
 
 /// A spelling of each row of the command table, with a barcode of each symbology in each form.

@@ -160,13 +160,14 @@ const REFERENCE: [Row; 22] = [
 ];
 
 // Those that have no parameter.
-const ALONE: [(SettingKind, &'static [u8], &'static str); 2] = [
+const ALONE: [(SettingKind, &'static [u8], &'static str); 3] = [
     (
         SettingKind::DefaultSpacing,
         &[0x1B, 0x32],
         "spacing default",
     ),
     (SettingKind::Home, &[0x1B, 0x3C], "home"),
+    (SettingKind::KanjiOff, &[0x1C, 0x2E], "kanji off"),
 ];
 
 // The command is spelled so, with this parameter after it, if one is given.

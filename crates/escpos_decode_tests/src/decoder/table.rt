@@ -59,7 +59,7 @@ fn every_byte_in_qr_codes(rt: HostRuntime) {
 
 #[test]
 fn every_byte_in_settings_with_no_effect(rt: HostRuntime) {
-    every_byte_follows(&rt, rt.alloc(), 50, 56);
+    every_byte_follows(&rt, rt.alloc(), 50, 57);
 }
 
 #[test]
@@ -68,7 +68,7 @@ fn all_spellings_in_one_stream(rt: HostRuntime) {
     for spelling in spellings() {
         stream.extend_from_slice(spelling).expect(&rt, "memory");
     }
-    assert!(&rt; spellings().len() == 56);
+    assert!(&rt; spellings().len() == 57);
     agrees(&rt, rt.alloc(), &stream);
 }
 
@@ -139,10 +139,10 @@ fn least_and_greatest_parameters(rt: HostRuntime) {
         reads_with_parameters(&rt, rt.alloc(), &mut bytes, read);
         refuses_parameters(&rt, rt.alloc(), &mut bytes, refused);
     }
-    for first in [0x09, 0x0B, 0x0C, 0x0E, 0x0F, 0x11, 0x1A, 0x1C, 0x1E, 0x1F] {
+    for first in [0x09, 0x0B, 0x0C, 0x0E, 0x0F, 0x11, 0x1A, 0x1E, 0x1F] {
         refuses_last(&rt, rt.alloc(), &[first], FaultReason::UnknownByte);
     }
-    for first in [0x10, 0x1B, 0x1D] {
+    for first in [0x10, 0x1B, 0x1C, 0x1D] {
         refuses_last(&rt, rt.alloc(), &[first, 0x05], FaultReason::UnknownCommand);
     }
 }

@@ -4,7 +4,7 @@
 //! decoder. The tests compare the two.
 
 use escpos_command::{
-    Bars, CR, Character, Command, Cut, DLE, EOT, ESC, FaultReason, FeedLines, FeedUnits, Form,
+    Bars, CR, Character, Command, Cut, DLE, EOT, ESC, FS, FaultReason, FeedLines, FeedUnits, Form,
     GS, LF, MarkId, Pulse, QrData, QrLevel, QrModel, QrSize, Raster, Reporting, Setting,
     SettingKind, StatusKind, Symbology,
 };
@@ -40,6 +40,7 @@ fn command_spelled(rt: &impl Abort, alloc: Global, bytes: &[u8]) -> Option<Comma
         [CR] => Command::Return,
         [DLE, EOT, n @ 1..=4] => Command::Status(StatusKind::new(*n).expect(rt, "a parameter")),
         [ESC, rest @ ..] => return spelled_by_escape(rt, rest),
+        [FS, b'.'] => alone(rt, SettingKind::KanjiOff),
         [GS, b'k', rest @ ..] => return bars_spelled(rt, alloc, rest),
         [GS, b'v', b'0', m @ (0..=3 | 48..=51), rest @ ..] => return raster_spelled(
             rt, alloc, *m, rest,
@@ -160,7 +161,7 @@ fn store_spelled(rt: &impl Abort, alloc: Global, length: u16, data: &[u8]) -> Op
 // Whether the bytes begin a spelling and aren't one.
 fn begins_spelling(bytes: &[u8]) -> bool {
     match bytes {
-        [DLE] | [DLE, EOT] => true,
+        [DLE] | [DLE, EOT] | [FS] => true,
         [ESC, rest @ ..] => begins_after_escape(rest),
         [GS, b'k', m @ 0..=6, content @ ..] => begins_form_a(*m, content),
         [GS, b'k', m @ 65..=73, rest @ ..] => begins_form_b(*m, rest),
