@@ -3,11 +3,12 @@ use Rattle.std.proofs.Common.{◌≡◌, ℕ, ◌≤◌, ℤ, pos, nat_abs, Bool
 use Rattle.std.specs.Prelude.{Option, IfSome}
 use Rattle.std.proofs.lemmas.Bool.{cases_lt}
 use Rattle.std.proofs.lemmas.Int.{to_z-of_z}
+use Rattle.escpos_jobs.specs.declared.form.Form.TheVariants.{Raw}
 use Rattle.escpos_jobs.specs.declared.input.TheConstants.{INPUT_LIMIT}
 use Rattle.escpos_jobs.specs.declared.status.Status.{Status}
 use Rattle.escpos_jobs.specs.declared.status.Status.TheVariants as job
 use Rattle.escpos_jobs.specs.Ending.{job_end}
-use Rattle.escpos_jobs.specs.Report.{IsAllRead, IsOfContent, ReportsAs, RunsRawAs}
+use Rattle.escpos_jobs.specs.Report.{IsAllRead, IsOfContent, ReportsAs, RunsAs}
 use Rattle.escpos_c.specs.declared.limited_text.TheConstants.{TEXT_LIMIT}
 use Rattle.escpos_c.specs.declared.call_status.CallStatus.{CallStatus}
 use Rattle.escpos_c.specs.declared.call_status.CallStatus.TheVariants as call
@@ -33,7 +34,7 @@ same_number e = ap nat_abs e
 
 module _ (is_text is_short : List ℕ → List ℕ → Type 0) (bytes text : List ℕ) (failed : Bool) where
   abbrev Ran : Status → Type 0
-  Ran status = RunsRawAs (ReportsAs is_text is_short) (job_end (Some []) (Some text) failed status) bytes
+  Ran status = RunsAs (ReportsAs is_text is_short) Raw (job_end (Some []) (Some text) failed status) bytes
 
   -- The job's text is the one for these bytes.
   text_for : (status : Status) → Ran status → IsOfContent status → IsTextFor is_text bytes text
@@ -45,13 +46,13 @@ module _ (is_text is_short : List ℕ → List ℕ → Type 0) (bytes text : Lis
         | inr refused ↦ (ran.too_long long).refusal refused
       ],
     )
-    | inr short ↦ let found = (ran.short short).text content in inl (short, subst (is_text bytes) (sym found.2) found.1)
+    | inr short ↦ let found = (ran.short bytes short refl).text content in inl (short, subst (is_text bytes) (sym found.2) found.1)
   ]
 
   all_read : Ran job.Good → (length bytes ≤ INPUT_LIMIT) × IsAllRead bytes
   all_read ran = elim (cases_lt INPUT_LIMIT (length bytes)) [
     | inl long ↦ absurd ((ran.too_long long).never_good refl)
-    | inr short ↦ (short, (ran.short short).good refl)
+    | inr short ↦ (short, (ran.short bytes short refl).good refl)
   ]
 
   module _ (before after : List ℕ) (written : ℕ) (within : written ≤ TEXT_LIMIT) where
@@ -129,7 +130,7 @@ module _ (is_text is_short : List ℕ → List ℕ → Type 0) (bytes text : Lis
       | inr short ↦ subst Answers (sym short.0) (short_answer (text_for job.Good ran (inl refl)) short.1)
     ]
     answers_text job.Refused too_long answer ran given = elim given [
-      | inl whole ↦ subst Answers (sym whole.0) (refused_answer (text_for job.Refused ran (inr refl)) (λ short read. (ran.short short).refused refl read) whole.1)
+      | inl whole ↦ subst Answers (sym whole.0) (refused_answer (text_for job.Refused ran (inr refl)) (λ short read. (ran.short bytes short refl).refused refl read) whole.1)
       | inr short ↦ subst Answers (sym short.0) (short_answer (text_for job.Refused ran (inr refl)) short.1)
     ]
     answers_text job.Usage too_long answer ran given = subst Answers (sym given.0) (cut_short_answer too_long (given.1, given.2))
@@ -138,13 +139,13 @@ module _ (is_text is_short : List ℕ → List ℕ → Type 0) (bytes text : Lis
 
     -- The same, where the job read a source of these bytes and printed into an empty text.
     pub told_text : (source empty : Option (List ℕ)) → source ≡ Some bytes → empty ≡ Some [] → (status : Status) (too_long : Bool) (answer : CallStatus) (z : ℤ)
-        → IfSome source (λ read. RunsRawAs (ReportsAs is_text is_short) (job_end empty (Some text) failed status) read)
+        → IfSome source (λ read. RunsAs (ReportsAs is_text is_short) Raw (job_end empty (Some text) failed status) read)
         → AnsweredWithin status too_long text answer before after written → z ≡ number_of_status answer
         → AnswersText is_text bytes (to_z w32 (of_z w32 z)) before after written
     told_text source empty is_source is_empty status too_long answer z ran given is_number =
-        let over : IfSome (Some bytes) (λ read. RunsRawAs (ReportsAs is_text is_short) (job_end empty (Some text) failed status) read)
-        = subst (λ o. IfSome o (λ read. RunsRawAs (ReportsAs is_text is_short) (job_end empty (Some text) failed status) read)) is_source ran in
-        let into : Ran status = subst (λ o. RunsRawAs (ReportsAs is_text is_short) (job_end o (Some text) failed status) bytes) is_empty over in
+        let over : IfSome (Some bytes) (λ read. RunsAs (ReportsAs is_text is_short) Raw (job_end empty (Some text) failed status) read)
+        = subst (λ o. IfSome o (λ read. RunsAs (ReportsAs is_text is_short) Raw (job_end empty (Some text) failed status) read)) is_source ran in
+        let into : Ran status = subst (λ o. RunsAs (ReportsAs is_text is_short) Raw (job_end o (Some text) failed status) bytes) is_empty over in
         subst (λ n. AnswersText is_text bytes n before after written) (sym (number_kept answer z is_number)) (answers_text status too_long answer into given)
 
 -- An answer for a width is the answer for what the width is, and its status comes to the caller as it is.

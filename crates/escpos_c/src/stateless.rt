@@ -17,9 +17,10 @@ use crate::limited_text::LimitedText;
 use crate::options::line_width;
 use escpos_command::LineWidth;
 use escpos_io::MemoryIn;
-use escpos_jobs::check::check_raw;
-use escpos_jobs::draw::draw_raw;
-use escpos_jobs::render::{render_raw, render_text_raw};
+use escpos_jobs::check::check;
+use escpos_jobs::draw::draw;
+use escpos_jobs::form::Form;
+use escpos_jobs::render::{render, render_text};
 use std::alloc::Global;
 
 /// Lists the commands of a stream, as `check --raw` does.
@@ -34,7 +35,7 @@ pub extern "C" fn escpos_listing(
 {
     let mut input = MemoryIn::new(bytes, usize::MAX);
     let mut text = LimitedText::new(alloc);
-    let status = check_raw(alloc, &mut input, &mut text);
+    let status = check(alloc, Form::Raw, &mut input, &mut text);
     answer_within(status, &text, out, written).number()
 }
 
@@ -137,7 +138,7 @@ fn paper(alloc: Global, width: LineWidth, bytes: &[u8], out: &mut [u8], written:
 {
     let mut input = MemoryIn::new(bytes, usize::MAX);
     let mut text = LimitedText::new(alloc);
-    let status = render_raw(alloc, width, &mut input, &mut text);
+    let status = render(alloc, Form::Raw, width, &mut input, &mut text);
     answer_within(status, &text, out, written).number()
 }
 
@@ -153,7 +154,7 @@ fn paper_text(
 {
     let mut input = MemoryIn::new(bytes, usize::MAX);
     let mut text = LimitedText::new(alloc);
-    let status = render_text_raw(alloc, width, &mut input, &mut text);
+    let status = render_text(alloc, Form::Raw, width, &mut input, &mut text);
     answer_within(status, &text, out, written).number()
 }
 
@@ -169,6 +170,6 @@ fn picture(
 {
     let mut input = MemoryIn::new(bytes, usize::MAX);
     let mut text = LimitedText::new(alloc);
-    let status = draw_raw(alloc, width, &mut input, &mut text);
+    let status = draw(alloc, Form::Raw, width, &mut input, &mut text);
     answer_within(status, &text, out, written).number()
 }

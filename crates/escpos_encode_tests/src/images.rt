@@ -2,10 +2,11 @@
 
 use escpos_command::LineWidth;
 use escpos_io::{MemoryIn, Outgoing};
+use escpos_jobs::form::Form;
 use escpos_jobs::perform::perform;
 use escpos_jobs::status::Status;
 use escpos_jobs::task::Task;
-use escpos_test_jobs::{NoNetwork, Row, performs_rows, prints};
+use escpos_test_jobs::{NoNetwork, Row, encode_task, performs_rows, prints};
 use escpos_test_receipts::joined;
 use std::alloc::Global;
 use std::process::Abort;
@@ -104,7 +105,7 @@ fn entries_that_encode_takes(rt: HostRuntime) {
     assert!(&rt;
         prints(
             rt.alloc(),
-            Task::Encode,
+            encode_task(Form::Hexadecimal),
             receipt.as_slice(),
             (b"1d76300001000200f00f\n", Status::Good)
         )

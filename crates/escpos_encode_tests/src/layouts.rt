@@ -1,10 +1,11 @@
 //! Layouts through `encode`: pairs, rows, rules and wrapped texts, in lines of twelve characters of font A.
 
 use escpos_command::LineWidth;
+use escpos_jobs::form::Form;
 use escpos_jobs::status::Status;
 use escpos_jobs::task::Task;
 use escpos_receipt::ReceiptOptions;
-use escpos_test_jobs::{Row, performs_rows};
+use escpos_test_jobs::{Row, encode_task, performs_rows};
 use std::process::Abort;
 
 fn narrow(rt: &impl Abort) -> ReceiptOptions {
@@ -105,8 +106,8 @@ const LAID_OUT: [Row; 18] = [
 
 #[test]
 fn rows_of_layouts(rt: HostRuntime) {
-    let task = Task::EncodeWith {
-        raw: true,
+    let task = Task::Encode {
+        form: Form::Raw,
         options: narrow(&rt),
     };
     assert!(&rt; performs_rows(rt.alloc(), task, &LAID_OUT, &[1, 4096]));
@@ -189,8 +190,8 @@ const REFUSED: [Row; 14] = [
 
 #[test]
 fn layouts_that_are_refused(rt: HostRuntime) {
-    let task = Task::EncodeWith {
-        raw: true,
+    let task = Task::Encode {
+        form: Form::Raw,
         options: narrow(&rt),
     };
     assert!(&rt; performs_rows(rt.alloc(), task, &REFUSED, &[4096]));
@@ -205,5 +206,5 @@ const USUAL: [Row; 1] = [(
 
 #[test]
 fn layouts_in_usual_lines(rt: HostRuntime) {
-    assert!(&rt; performs_rows(rt.alloc(), Task::EncodeRaw, &USUAL, &[4096]));
+    assert!(&rt; performs_rows(rt.alloc(), encode_task(Form::Raw), &USUAL, &[4096]));
 }

@@ -2,21 +2,17 @@
 
 use escpos_command::LineWidth;
 use escpos_io::{MemoryIn, Outgoing};
+use escpos_jobs::form::Form;
 use escpos_jobs::status::Status;
 use escpos_jobs::task::Task;
 use escpos_receipt::ReceiptOptions;
-use escpos_test_jobs::{NoNetwork, Row, performs_rows, prints, run_job};
+use escpos_test_jobs::{
+    NoNetwork, Row, encode_task, performs_rows, prints, render_text_task, run_job,
+};
 use escpos_test_receipts::joined;
 use escpos_text::Replacement;
 use std::alloc::Global;
 use std::process::Abort;
-
-fn plain(raw: bool) -> Task {
-    Task::RenderText {
-        raw,
-        width: LineWidth::usual(),
-    }
-}
 
 fn replacing(rt: &impl Abort, byte: u8) -> ReceiptOptions {
     ReceiptOptions {
@@ -77,13 +73,20 @@ const PLAIN: [Row; 9] = [
 
 #[test]
 fn rows_of_plain_text(rt: HostRuntime) {
-    assert!(&rt; performs_rows(rt.alloc(), plain(false), &PLAIN, &[1, 4096]));
+    assert!(&rt;
+        performs_rows(
+            rt.alloc(),
+            render_text_task(Form::Hexadecimal),
+            &PLAIN,
+            &[1, 4096]
+        )
+    );
 }
 
 #[test]
 fn plain_text_in_narrow_lines(rt: HostRuntime) {
     let task = Task::RenderText {
-        raw: true,
+        form: Form::Raw,
         width: LineWidth::new(24).expect(&rt, "a width"),
     };
     let rows: [Row; 1] = [(
@@ -110,8 +113,8 @@ const REPLACED: [Row; 2] = [
 
 #[test]
 fn rows_of_a_replacement(rt: HostRuntime) {
-    let task = Task::EncodeWith {
-        raw: false,
+    let task = Task::Encode {
+        form: Form::Hexadecimal,
         options: replacing(&rt, b'?'),
     };
     assert!(&rt; performs_rows(rt.alloc(), task, &REPLACED, &[1, 4096]));
@@ -120,8 +123,8 @@ fn rows_of_a_replacement(rt: HostRuntime) {
 // A replacement that the set in force exchanges comes from no table, and so there is none.
 #[test]
 fn a_replacement_that_is_exchanged(rt: HostRuntime) {
-    let task = Task::EncodeWith {
-        raw: false,
+    let task = Task::Encode {
+        form: Form::Hexadecimal,
         options: replacing(&rt, b'['),
     };
     let rows: [Row; 2] = [
@@ -170,7 +173,14 @@ fn reads_as(rt: &impl Abort, alloc: Global, set: u8, characters: &str) {
         .extend_from_slice(b"#$@[\\]^`{|}~\n")
         .expect(rt, "memory");
     let paper = joined(alloc, ["row left ", characters, "\nfeed 1\n"], 1).expect(rt, "memory");
-    assert!(rt; prints(alloc, plain(true), &stream, (&paper, Status::Good)));
+    assert!(rt;
+        prints(
+            alloc,
+            render_text_task(Form::Raw),
+            &stream,
+            (&paper, Status::Good)
+        )
+    );
 }
 
 #[test]
@@ -207,7 +217,7 @@ fn reads_back(rt: &impl Abort, alloc: Global, line: &str) {
     let ended = run_job(
         &NoNetwork,
         alloc,
-        Ok(Task::EncodeRaw),
+        Ok(encode_task(Form::Raw)),
         &mut source,
         &mut stream,
     );
@@ -216,7 +226,7 @@ fn reads_back(rt: &impl Abort, alloc: Global, line: &str) {
     assert!(rt;
         prints(
             alloc,
-            plain(true),
+            render_text_task(Form::Raw),
             &stream.into_inner(),
             (&paper, Status::Good)
         )

@@ -1,8 +1,8 @@
 //! QR codes in receipts, through `encode`.
 
+use escpos_jobs::form::Form;
 use escpos_jobs::status::Status;
-use escpos_jobs::task::Task;
-use escpos_test_jobs::{Row, performs_rows, prints};
+use escpos_test_jobs::{Row, encode_task, performs_rows, prints};
 use escpos_test_receipts::joined;
 
 // Texts of receipts, and their line.
@@ -51,7 +51,14 @@ const ENCODED: [Row; 7] = [
 
 #[test]
 fn qr_codes_in_encode(rt: HostRuntime) {
-    assert!(&rt; performs_rows(rt.alloc(), Task::Encode, &ENCODED, &[1, 4096]));
+    assert!(&rt;
+        performs_rows(
+            rt.alloc(),
+            encode_task(Form::Hexadecimal),
+            &ENCODED,
+            &[1, 4096]
+        )
+    );
 }
 
 // Texts that give no receipt, and why.
@@ -225,7 +232,14 @@ const REFUSED_TEXTS: [Row; 31] = [
 
 #[test]
 fn qr_codes_that_are_refused(rt: HostRuntime) {
-    assert!(&rt; performs_rows(rt.alloc(), Task::Encode, &REFUSED_TEXTS, &[7]));
+    assert!(&rt;
+        performs_rows(
+            rt.alloc(),
+            encode_task(Form::Hexadecimal),
+            &REFUSED_TEXTS,
+            &[7]
+        )
+    );
 }
 
 // How often a part comes in a content, and what the text gives.
@@ -285,6 +299,13 @@ fn the_longest_contents_in_encode(rt: HostRuntime) {
         ];
         let text = joined(rt.alloc(), text, count).expect(&rt, "memory");
         let line = joined(rt.alloc(), line, count).expect(&rt, "memory");
-        assert!(&rt; prints(rt.alloc(), Task::Encode, &text, (&line, status)));
+        assert!(&rt;
+            prints(
+                rt.alloc(),
+                encode_task(Form::Hexadecimal),
+                &text,
+                (&line, status)
+            )
+        );
     }
 }

@@ -1,7 +1,6 @@
 -- What a job prints for a byte stream, from how far the stream was read.
 use Rattle.std.proofs.Common.{◌≡◌, ◌≢◌, ℕ, refl, inl, inr, List, [], ◌∷◌, ◌++◌, length, take, drop, append_assoc, append-nil, sym, ◌∙◌, ap, subst, arith, Result, Ok, Err, OnOk, false}
 use Rattle.std.specs.Prelude.{is_err, IsTrue, IsErr, IfSome, Option, Some, None, codes, ◌<◌, ◌≤◌}
-use Rattle.hex.specs.Hex.{decode_of}
 use Rattle.std.specs.List.{AllByRecursion}
 use Rattle.std.proofs.lemmas.Grind.{flat_map-append}
 use Rattle.std.proofs.lemmas.List.{nil_from_length, take-append-le, take-append-drop, take_all}
@@ -10,15 +9,16 @@ use Rattle.escpos_command.specs.declared.command.Command.{Command}
 use Rattle.escpos_command.specs.declared.fault.FaultReason.{FaultReason}
 use Rattle.escpos_command.specs.Grammar.{Reads, FaultAt}
 use Rattle.escpos_command.specs.Laws.{IsRead, IsRefused}
+use Rattle.escpos_jobs.specs.declared.form.Form.{Form}
 use Rattle.escpos_jobs.specs.declared.input.TheConstants.{INPUT_LIMIT}
 use Rattle.escpos_jobs.specs.declared.input.InputFault.{InputFault}
 use Rattle.escpos_jobs.specs.declared.input.InputFault.TheVariants as fault_kind
-use Rattle.escpos_jobs.specs.Hexadecimal.{IsHexadecimal, digits_of}
+use Rattle.escpos_jobs.specs.Input.{stream_of}
 use Rattle.escpos_jobs.specs.declared.status.Status.{Status}
 use Rattle.escpos_jobs.specs.declared.status.Status.TheVariants.{Good, Refused, Usage, Device, Memory}
 use Rattle.escpos_jobs.specs.Lines.{fault_line}
 use Rattle.escpos_jobs.specs.Ending.{JobEnd, PrintsText, RefusesInput, StatusFits, memory_line}
-use Rattle.escpos_jobs.specs.Report.{Shape, ReportsAs, Reports, RunsAs, Runs, RunsRawAs, RunsRaw, IsOfContent, IsText, IsCutShort}
+use Rattle.escpos_jobs.specs.Report.{Shape, ReportsAs, Reports, RunsAs, Runs, IsOfContent, IsText, IsCutShort}
 
 -- The call has succeeded.
 pub succeeded : {T E : Type 0} {P : Type 0} (r : Result T E) → false ≡ is_err r → OnOk r P → P
@@ -170,9 +170,9 @@ short_at_once shape bytes = (0, [], [], reads_nothing, ap (λ v. v ++ memory_lin
 -- ## Input that gives no bytes
 
 -- What an input fault says of the input.
-pub record Shows (fault : InputFault) (input : List ℕ) : Type 0 where
+pub record Shows (form : Form) (fault : InputFault) (input : List ℕ) : Type 0 where
   pub too_long : fault ≡ fault_kind.TooLong → INPUT_LIMIT < length input
-  pub not_hexadecimal : fault ≡ fault_kind.NotHexadecimal → (length input ≤ INPUT_LIMIT) × IsErr (decode_of (digits_of input))
+  pub not_hexadecimal : fault ≡ fault_kind.NotHexadecimal → (length input ≤ INPUT_LIMIT) × IsErr (stream_of form input)
 
 -- What is printed for an input fault.
 pub record Answers (fault : InputFault) (o : JobEnd) : Type 0 where
@@ -213,8 +213,8 @@ reports_at_device is_text is_short o bytes d = record {
 both_lengths : (input : List ℕ) → INPUT_LIMIT < length input → length input ≤ INPUT_LIMIT → ⊥
 both_lengths input h k = omega arith
 
-decoded_or_not : (input bytes : List ℕ) → IsErr (decode_of (digits_of input)) → IsHexadecimal input bytes → ⊥
-decoded_or_not input bytes h e = let clash = subst (λ r. IsErr r) e h in absurd cc
+decoded_or_not : (form : Form) (input bytes : List ℕ) → IsErr (stream_of form input) → stream_of form input ≡ Ok bytes → ⊥
+decoded_or_not form input bytes h e = let clash = subst (λ r. IsErr r) e h in absurd cc
 
 -- `AtDevice` and `AtMemory` are what is to be shown of any bytes where the status is that of a failed device, and where only the
 -- line is printed that says that an allocation failed.
@@ -225,65 +225,41 @@ abbrev AtMemory : (JobEnd → List ℕ → Type 0) → Type 0
 AtMemory reports = (o : JobEnd) (bytes : List ℕ) → PrintsText o memory_line Memory → reports o bytes
 
 runs_by : (reports : JobEnd → List ℕ → Type 0) → AtDevice reports → AtMemory reports
-    → (o : JobEnd) (fault : InputFault) (input : List ℕ) → Shows fault input → Answers fault o → RunsAs reports o input
-runs_by reports at_device at_memory o fault_kind.TooLong input h s = record {
+    → (form : Form) (o : JobEnd) (fault : InputFault) (input : List ℕ) → Shows form fault input → Answers fault o → RunsAs reports form o input
+runs_by reports at_device at_memory form o fault_kind.TooLong input h s = record {
   too_long = λ long. refuses o _ (s.too_long refl);
   not_hexadecimal = λ short e. absurd (both_lengths input (h.too_long refl) short);
-  hexadecimal = λ bytes short e. absurd (both_lengths input (h.too_long refl) short);
+  short = λ bytes short e. absurd (both_lengths input (h.too_long refl) short);
 }
-runs_by reports at_device at_memory o fault_kind.NotHexadecimal input h s = record {
+runs_by reports at_device at_memory form o fault_kind.NotHexadecimal input h s = record {
   too_long = λ long. absurd (both_lengths input long (h.not_hexadecimal refl).0);
   not_hexadecimal = λ short e. refuses o _ (s.not_hexadecimal refl);
-  hexadecimal = λ bytes short e. absurd (decoded_or_not input bytes (h.not_hexadecimal refl).1 e);
+  short = λ bytes short e. absurd (decoded_or_not form input bytes (h.not_hexadecimal refl).1 e);
 }
-runs_by reports at_device at_memory o fault_kind.Device input h s = record {
+runs_by reports at_device at_memory form o fault_kind.Device input h s = record {
   too_long = λ long. refuses_at_device o _ (s.device refl);
   not_hexadecimal = λ short e. refuses_at_device o _ (s.device refl);
-  hexadecimal = λ bytes short e. at_device o bytes (s.device refl);
+  short = λ bytes short e. at_device o bytes (s.device refl);
 }
-runs_by reports at_device at_memory o fault_kind.Memory input h s = record {
+runs_by reports at_device at_memory form o fault_kind.Memory input h s = record {
   too_long = λ long. refuses_at_memory o _ (s.memory refl);
   not_hexadecimal = λ short e. refuses_at_memory o _ (s.memory refl);
-  hexadecimal = λ bytes short e. at_memory o bytes (s.memory refl);
+  short = λ bytes short e. at_memory o bytes (s.memory refl);
 }
 
 -- Where the source can name its bytes.
 pub runs_as : (reports : JobEnd → List ℕ → Type 0) → AtDevice reports → AtMemory reports
-    → (o : JobEnd) (fault : InputFault) (known : Option (List ℕ)) → (fault ≡ fault_kind.TooLong → IfSome known (λ text. INPUT_LIMIT < length text))
-    → (fault ≡ fault_kind.NotHexadecimal → IfSome known (λ text. (length text ≤ INPUT_LIMIT) × IsErr (decode_of (digits_of text)))) → Answers fault o
-    → IfSome known (λ text. RunsAs reports o text)
-runs_as reports at_device at_memory o fault None long bad s = tt
-runs_as reports at_device at_memory o fault (Some text) long bad s = runs_by reports at_device at_memory o fault text (record { too_long = long; not_hexadecimal = bad }) s
+    → (form : Form) (o : JobEnd) (fault : InputFault) (known : Option (List ℕ)) → (fault ≡ fault_kind.TooLong → IfSome known (λ text. INPUT_LIMIT < length text))
+    → (fault ≡ fault_kind.NotHexadecimal → IfSome known (λ text. (length text ≤ INPUT_LIMIT) × IsErr (stream_of form text))) → Answers fault o
+    → IfSome known (λ text. RunsAs reports form o text)
+runs_as reports at_device at_memory form o fault None long bad s = tt
+runs_as reports at_device at_memory form o fault (Some text) long bad s = runs_by reports at_device at_memory form o fault text (record { too_long = long; not_hexadecimal = bad }) s
 
 at_memory : (shape : Shape) → AtMemory (Reports shape)
 at_memory shape o bytes s = short_as (IsText shape) (IsCutShort shape) o bytes memory_line (short_at_once shape bytes) s
 
-pub runs_refused : (shape : Shape) (o : JobEnd) (fault : InputFault) (known : Option (List ℕ)) → (fault ≡ fault_kind.TooLong → IfSome known (λ text. INPUT_LIMIT < length text))
-    → (fault ≡ fault_kind.NotHexadecimal → IfSome known (λ text. (length text ≤ INPUT_LIMIT) × IsErr (decode_of (digits_of text)))) → Answers fault o
-    → IfSome known (λ text. Runs shape o text)
-runs_refused shape o fault known long bad s =
-    runs_as (Reports shape) (reports_at_device (IsText shape) (IsCutShort shape)) (at_memory shape) o fault known long bad s
-
--- ## Input as it is
-
-runs_raw_by : (reports : JobEnd → List ℕ → Type 0) → AtDevice reports → AtMemory reports
-    → (o : JobEnd) (fault : InputFault) (input : List ℕ) → (fault ≡ fault_kind.TooLong → INPUT_LIMIT < length input) → (fault ≡ fault_kind.NotHexadecimal → ⊥)
-    → Answers fault o → RunsRawAs reports o input
-runs_raw_by reports at_device at_memory o fault_kind.TooLong input long never s =
-    record { too_long = λ h. refuses o _ (s.too_long refl); short = λ short. absurd (both_lengths input (long refl) short) }
-runs_raw_by reports at_device at_memory o fault_kind.NotHexadecimal input long never s = absurd (never refl)
-runs_raw_by reports at_device at_memory o fault_kind.Device input long never s =
-    record { too_long = λ h. refuses_at_device o _ (s.device refl); short = λ short. at_device o input (s.device refl) }
-runs_raw_by reports at_device at_memory o fault_kind.Memory input long never s =
-    record { too_long = λ h. refuses_at_memory o _ (s.memory refl); short = λ short. at_memory o input (s.memory refl) }
-
-pub runs_raw_as : (reports : JobEnd → List ℕ → Type 0) → AtDevice reports → AtMemory reports
-    → (o : JobEnd) (fault : InputFault) (known : Option (List ℕ)) → (fault ≡ fault_kind.TooLong → IfSome known (λ all. INPUT_LIMIT < length all))
-    → (fault ≡ fault_kind.NotHexadecimal → ⊥) → Answers fault o → IfSome known (λ all. RunsRawAs reports o all)
-runs_raw_as reports at_device at_memory o fault None long never s = tt
-runs_raw_as reports at_device at_memory o fault (Some all) long never s = runs_raw_by reports at_device at_memory o fault all long never s
-
-pub runs_raw_refused : (shape : Shape) (o : JobEnd) (fault : InputFault) (known : Option (List ℕ)) → (fault ≡ fault_kind.TooLong → IfSome known (λ all. INPUT_LIMIT < length all))
-    → (fault ≡ fault_kind.NotHexadecimal → ⊥) → Answers fault o → IfSome known (λ all. RunsRaw shape o all)
-runs_raw_refused shape o fault known long never s =
-    runs_raw_as (Reports shape) (reports_at_device (IsText shape) (IsCutShort shape)) (at_memory shape) o fault known long never s
+pub runs_refused : (shape : Shape) (form : Form) (o : JobEnd) (fault : InputFault) (known : Option (List ℕ)) → (fault ≡ fault_kind.TooLong → IfSome known (λ text. INPUT_LIMIT < length text))
+    → (fault ≡ fault_kind.NotHexadecimal → IfSome known (λ text. (length text ≤ INPUT_LIMIT) × IsErr (stream_of form text))) → Answers fault o
+    → IfSome known (λ text. Runs shape form o text)
+runs_refused shape form o fault known long bad s =
+    runs_as (Reports shape) (reports_at_device (IsText shape) (IsCutShort shape)) (at_memory shape) form o fault known long bad s

@@ -8,10 +8,11 @@ use Rattle.escpos_paper.specs.Styles.{is_empty}
 use Rattle.escpos_picture.specs.Places.{top, place_after_all}
 use Rattle.escpos_picture.specs.Groups.{drawings}
 use Rattle.escpos_picture.specs.Document.{head, picture_text}
+use Rattle.escpos_jobs.specs.declared.form.Form.{Form}
 use Rattle.escpos_jobs.specs.Lines.{fault_line}
 use Rattle.escpos_jobs.specs.Ending.{JobEnd, memory_line}
 use Rattle.escpos_jobs.specs.Render.{half_line}
-use Rattle.escpos_jobs.specs.Report.{ReportsAs, RunsAs, RunsRawAs}
+use Rattle.escpos_jobs.specs.Report.{ReportsAs, RunsAs}
 
 -- The commands of a byte list, and the line that comes last: nothing where all is read.
 abbrev pub IsOutcome : List ℕ → List Command → List ℕ → Type 0
@@ -34,10 +35,6 @@ IsShortPicture width bytes text =
 abbrev pub Draws : ℕ → JobEnd → List ℕ → Type 0
 Draws width o bytes = ReportsAs (IsPicture width) (IsShortPicture width) o bytes
 
--- What `draw_raw` does with its input, a stream.
-abbrev pub DrawsRaw : ℕ → JobEnd → List ℕ → Type 0
-DrawsRaw width o input = RunsRawAs (Draws width) o input
-
--- What `draw` does with its input, a stream in hexadecimal.
-abbrev pub DrawsInput : ℕ → JobEnd → List ℕ → Type 0
-DrawsInput width o input = RunsAs (Draws width) o input
+-- What `draw` does with its input, a stream in this form.
+abbrev pub DrawsInput : Form → ℕ → JobEnd → List ℕ → Type 0
+DrawsInput form width o input = RunsAs (Draws width) form o input

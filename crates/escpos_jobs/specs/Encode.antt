@@ -8,14 +8,17 @@ use Rattle.escpos_receipt.specs.declared.json.JsonFault.{JsonFault}
 use Rattle.escpos_receipt.specs.Describes.{DescribesWith, IsFaultWith}
 use Rattle.escpos_receipt.specs.declared.options.ReceiptOptions.{ReceiptOptions}
 use Rattle.escpos_receipt.specs.Whole.{Whole}
+use Rattle.escpos_jobs.specs.declared.form.Form.{Form}
+use Rattle.escpos_jobs.specs.declared.form.Form.TheVariants.{Hexadecimal, Raw}
 use Rattle.escpos_jobs.specs.declared.input.TheConstants.{INPUT_LIMIT}
 use Rattle.escpos_jobs.specs.declared.status.Status.TheVariants.{Good, Refused, Memory}
 use Rattle.escpos_jobs.specs.Ending.{JobEnd, Puts, RefusesInput, memory_line}
 use Rattle.escpos_jobs.specs.Refusal.{refusal_line}
 
--- The bytes of the commands as hexadecimal text, in one line.
-abbrev pub digits_line : List Command → List ℕ
-digits_line cs = encode_lower (spell cs) ++ LF ∷ []
+-- The bytes of the commands: as hexadecimal text, in one line, or as they are.
+abbrev pub written_in : Form → List Command → List ℕ
+written_in Hexadecimal cs = encode_lower (spell cs) ++ LF ∷ []
+written_in Raw cs = spell cs
 
 -- What is done with a text: a receipt that it describes is written, as `written` says, or the line of a reason for which it
 -- describes none is printed; or, if an allocation fails, the one that says so.
@@ -29,10 +32,6 @@ pub record EncodesAs (options : ReceiptOptions) (written : List Command → List
   pub too_long : INPUT_LIMIT < length input → RefusesInput o (codes "refused input\n")
   pub short : length input ≤ INPUT_LIMIT → EncodesTextAs options written o input
 
--- What `encode` does with its input, where receipts are read with these options: a receipt's bytes are written in hexadecimal.
-abbrev pub Encodes : ReceiptOptions → JobEnd → List ℕ → Type 0
-Encodes options o input = EncodesAs options digits_line o input
-
--- What `encode_raw` does with its input: a receipt's bytes are written as they are.
-abbrev pub EncodesRaw : ReceiptOptions → JobEnd → List ℕ → Type 0
-EncodesRaw options o input = EncodesAs options spell o input
+-- What `encode` does with its input, where receipts are read with these options: a receipt's bytes are written in this form.
+abbrev pub Encodes : Form → ReceiptOptions → JobEnd → List ℕ → Type 0
+Encodes form options o input = EncodesAs options (written_in form) o input

@@ -2,32 +2,19 @@
 use Rattle.std.specs.Prelude.{Result, Ok, Err, ⊤}
 use Rattle.escpos_jobs.specs.declared.task.NoTask.{NoTask}
 use Rattle.escpos_jobs.specs.declared.task.Task.{Task}
-use Rattle.escpos_jobs.specs.declared.task.Task.TheVariants.{Emulate, EmulateIn, EmulateAt, EmulateBy, Follow, FollowAt, Send, SendWithin, SendWith, Status, Loop, LoopAt}
+use Rattle.escpos_jobs.specs.declared.task.Task.TheVariants.{Emulate, Send, Status, Loop}
 
 -- Standard input is read: by every task but `emulate` and `status`, which have their links.
 abbrev pub ReadsInput : Result Task NoTask → Type 0
-ReadsInput (Ok (Emulate address links)) = ⊥
-ReadsInput (Ok (EmulateIn address links condition)) = ⊥
-ReadsInput (Ok (Follow address condition)) = ⊥
-ReadsInput (Ok (EmulateAt address links condition width)) = ⊥
-ReadsInput (Ok (FollowAt address condition width)) = ⊥
-ReadsInput (Ok (EmulateBy address links condition width file)) = ⊥
+ReadsInput (Ok (Emulate address links condition width file)) = ⊥
 ReadsInput (Ok (Status address wait)) = ⊥
 ReadsInput (Ok task) = ⊤
 ReadsInput (Err why) = ⊥
 
 -- A link may fail, and not only standard input and output.
 abbrev pub UsesLinks : Result Task NoTask → Type 0
-UsesLinks (Ok (Emulate address links)) = ⊤
-UsesLinks (Ok (EmulateIn address links condition)) = ⊤
-UsesLinks (Ok (Follow address condition)) = ⊤
-UsesLinks (Ok (EmulateAt address links condition width)) = ⊤
-UsesLinks (Ok (FollowAt address condition width)) = ⊤
-UsesLinks (Ok (EmulateBy address links condition width file)) = ⊤
-UsesLinks (Ok (Send address first openings)) = ⊤
-UsesLinks (Ok (SendWithin address first openings wait)) = ⊤
-UsesLinks (Ok (SendWith address first openings wait options)) = ⊤
+UsesLinks (Ok (Emulate address links condition width file)) = ⊤
+UsesLinks (Ok (Send address first openings wait options)) = ⊤
 UsesLinks (Ok (Status address wait)) = ⊤
-UsesLinks (Ok Loop) = ⊤
-UsesLinks (Ok (LoopAt width)) = ⊤
+UsesLinks (Ok (Loop width)) = ⊤
 UsesLinks asked = ⊥

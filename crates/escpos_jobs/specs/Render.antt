@@ -4,9 +4,10 @@ use Rattle.escpos_paper.specs.declared.item.Item.{Item}
 use Rattle.escpos_paper.specs.Printed.{printed}
 use Rattle.escpos_paper.specs.ItemsText.{item_text}
 use Rattle.escpos_plain.specs.PlainText.{plain_text}
+use Rattle.escpos_jobs.specs.declared.form.Form.{Form}
 use Rattle.escpos_jobs.specs.Lines.{end_line}
 use Rattle.escpos_jobs.specs.Ending.{JobEnd}
-use Rattle.escpos_jobs.specs.Report.{Shape, Runs, RunsRaw}
+use Rattle.escpos_jobs.specs.Report.{Shape, Runs}
 
 -- The last line of the listing, where a half command is left.
 abbrev pub half_line : ℕ → ℕ → List ℕ
@@ -22,18 +23,10 @@ paper_shape width = text_shape item_text width
 abbrev pub plain_shape : ℕ → Shape
 plain_shape width = text_shape plain_text width
 
--- What `render_raw` does with its input, a stream.
-abbrev pub RendersRaw : ℕ → JobEnd → List ℕ → Type 0
-RendersRaw width o input = RunsRaw (paper_shape width) o input
+-- What `render` does with its input, a stream in this form.
+abbrev pub Renders : Form → ℕ → JobEnd → List ℕ → Type 0
+Renders form width o input = Runs (paper_shape width) form o input
 
--- What `render` does with its input, a stream in hexadecimal.
-abbrev pub RendersInput : ℕ → JobEnd → List ℕ → Type 0
-RendersInput width o input = Runs (paper_shape width) o input
-
--- What `render_text_raw` does with its input, a stream.
-abbrev pub RendersTextRaw : ℕ → JobEnd → List ℕ → Type 0
-RendersTextRaw width o input = RunsRaw (plain_shape width) o input
-
--- What `render_text` does with its input, a stream in hexadecimal.
-abbrev pub RendersText : ℕ → JobEnd → List ℕ → Type 0
-RendersText width o input = Runs (plain_shape width) o input
+-- What `render_text` does with its input, a stream in this form.
+abbrev pub RendersText : Form → ℕ → JobEnd → List ℕ → Type 0
+RendersText form width o input = Runs (plain_shape width) form o input

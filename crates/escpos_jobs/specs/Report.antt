@@ -1,14 +1,14 @@
 -- What a job prints for a byte stream, and its exit status. A listing and a paper have one shape: what the commands give,
 -- then the last line.
-use Rattle.std.specs.Prelude.{ℕ, ◌≡◌, ◌<◌, ◌≤◌, ◌⊎◌, List, [], ◌++◌, length, take, codes, IsErr}
-use Rattle.hex.specs.Hex.{decode_of}
+use Rattle.std.specs.Prelude.{ℕ, ◌≡◌, ◌<◌, ◌≤◌, ◌⊎◌, List, [], ◌++◌, length, take, codes, IsErr, Ok}
 use Rattle.escpos_command.specs.declared.command.Command.{Command}
 use Rattle.escpos_command.specs.declared.fault.FaultReason.{FaultReason}
 use Rattle.escpos_command.specs.Grammar.{Reads, FaultAt}
+use Rattle.escpos_jobs.specs.declared.form.Form.{Form}
 use Rattle.escpos_jobs.specs.declared.input.TheConstants.{INPUT_LIMIT}
 use Rattle.escpos_jobs.specs.declared.status.Status.{Status}
 use Rattle.escpos_jobs.specs.declared.status.Status.TheVariants.{Good, Refused, Memory}
-use Rattle.escpos_jobs.specs.Hexadecimal.{IsHexadecimal, digits_of}
+use Rattle.escpos_jobs.specs.Input.{stream_of}
 use Rattle.escpos_jobs.specs.Lines.{fault_line}
 use Rattle.escpos_jobs.specs.Ending.{JobEnd, Puts, RefusesInput, memory_line}
 
@@ -51,19 +51,11 @@ pub record ReportsAs (is_text is_short : List ℕ → List ℕ → Type 0) (o : 
 abbrev pub Reports : Shape → JobEnd → List ℕ → Type 0
 Reports shape o bytes = ReportsAs (IsText shape) (IsCutShort shape) o bytes
 
--- What a job does with its input where that is the bytes themselves: too long, or bytes, of which `reports` tells the rest.
-pub record RunsRawAs (reports : JobEnd → List ℕ → Type 0) (o : JobEnd) (input : List ℕ) : Type 0 where
+-- What a job does with its input in this form: too long, not hexadecimal, or bytes, of which `reports` tells the rest.
+pub record RunsAs (reports : JobEnd → List ℕ → Type 0) (form : Form) (o : JobEnd) (input : List ℕ) : Type 0 where
   pub too_long : INPUT_LIMIT < length input → RefusesInput o (codes "refused input\n")
-  pub short : length input ≤ INPUT_LIMIT → reports o input
+  pub not_hexadecimal : length input ≤ INPUT_LIMIT → IsErr (stream_of form input) → RefusesInput o (codes "refused hex\n")
+  pub short : (bytes : List ℕ) → length input ≤ INPUT_LIMIT → stream_of form input ≡ Ok bytes → reports o bytes
 
-abbrev pub RunsRaw : Shape → JobEnd → List ℕ → Type 0
-RunsRaw shape o input = RunsRawAs (Reports shape) o input
-
--- What a job does with its input in hexadecimal: too long, not hexadecimal, or bytes.
-pub record RunsAs (reports : JobEnd → List ℕ → Type 0) (o : JobEnd) (input : List ℕ) : Type 0 where
-  pub too_long : INPUT_LIMIT < length input → RefusesInput o (codes "refused input\n")
-  pub not_hexadecimal : length input ≤ INPUT_LIMIT → IsErr (decode_of (digits_of input)) → RefusesInput o (codes "refused hex\n")
-  pub hexadecimal : (bytes : List ℕ) → length input ≤ INPUT_LIMIT → IsHexadecimal input bytes → reports o bytes
-
-abbrev pub Runs : Shape → JobEnd → List ℕ → Type 0
-Runs shape o input = RunsAs (Reports shape) o input
+abbrev pub Runs : Shape → Form → JobEnd → List ℕ → Type 0
+Runs shape form o input = RunsAs (Reports shape) form o input

@@ -7,9 +7,10 @@ ghost use Rattle.escpos_jobs.specs.declared.job.Obstacle.TheVariants as obstacle
 ghost use Rattle.escpos_jobs.specs.Lines.{command_lines};
 ghost use Rattle.escpos_jobs.specs.Ending.{IsFair, job_end};
 ghost use Rattle.escpos_jobs.specs.Obstacle.{memory_is_no_device};
-ghost use Rattle.escpos_jobs.specs.Check.{Checks, ChecksRaw, listing_shape};
+ghost use Rattle.escpos_jobs.specs.Check.{Checks, listing_shape};
 
-use crate::job::{Job, Obstacle, run, run_raw};
+use crate::form::Form;
+use crate::job::{Job, Obstacle, run};
 use crate::lines::{LINE_BYTES, Last, append_character, put_line};
 use crate::status::Status;
 use escpos_command::{Command, LineWidth};
@@ -17,26 +18,21 @@ use escpos_decode::Consumer;
 use escpos_io::{ByteIn, ByteOut, Gather};
 use std::alloc::Global;
 
-/// Reads a stream in hexadecimal from `input` and lists its commands on `output`.
+/// Reads a stream in this form from `input` and lists its commands on `output`.
 ///
 /// `run` says which status comes when. With `Memory` the line `memory` follows the lines of the commands so far.
-pub fn check<R: ByteIn, W: ByteOut>(alloc: Global, input: &mut R, output: &mut W) -> Status
-    ensures checks { IfSome (R.to_come input.old) (λ text. Checks (job_end (W.written output.old) (W.written output.new) (W.failed output.new) result) text) }
+pub fn check<R: ByteIn, W: ByteOut>(
+    alloc: Global,
+    form: Form,
+    input: &mut R,
+    output: &mut W,
+) -> Status
+    ensures checks { IfSome (R.to_come input.old) (λ given. Checks form (job_end (W.written output.old) (W.written output.new) (W.failed output.new) result) given) }
     ensures fair { IsFair result (R.failed input.new) (W.failed output.old, W.failed output.new)
         (R.pull_count input.old, R.pull_count input.new) }
     ensures nothing_put { IsTrue (R.failed input.new) → output.new ≡ output.old }
 {
-    run::<R, W, Listing>(alloc, LineWidth::usual(), input, output)
-}
-
-/// Reads a stream from `input`, as it is, and lists its commands on `output`, as `check` does.
-pub fn check_raw<R: ByteIn, W: ByteOut>(alloc: Global, input: &mut R, output: &mut W) -> Status
-    ensures checks { IfSome (R.to_come input.old) (λ bytes. ChecksRaw (job_end (W.written output.old) (W.written output.new) (W.failed output.new) result) bytes) }
-    ensures fair { IsFair result (R.failed input.new) (W.failed output.old, W.failed output.new)
-        (R.pull_count input.old, R.pull_count input.new) }
-    ensures nothing_put { IsTrue (R.failed input.new) → output.new ≡ output.old }
-{
-    run_raw::<R, W, Listing>(alloc, LineWidth::usual(), input, output)
+    run::<R, W, Listing>(alloc, form, LineWidth::usual(), input, output)
 }
 
 // The lines that aren't printed yet.

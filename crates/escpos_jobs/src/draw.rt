@@ -18,11 +18,12 @@ ghost use Rattle.escpos_jobs.specs.declared.job.Obstacle.TheVariants as obstacle
 ghost use Rattle.escpos_jobs.specs.Ending.{IsFair, PrintsText, job_end, memory_line};
 ghost use Rattle.escpos_jobs.specs.Render.{half_line};
 ghost use Rattle.escpos_jobs.specs.LastText.{last_text};
-ghost use Rattle.escpos_jobs.specs.Draw.{Draws, DrawsInput, DrawsRaw, IsOutcome};
+ghost use Rattle.escpos_jobs.specs.Draw.{Draws, DrawsInput, IsOutcome};
 ghost use Rattle.escpos_jobs.specs.DrawSteps.{IsDrawn, IsMeasured};
 
 use crate::ending::{MEMORY, refuse, say, status_of};
-use crate::input::{hexadecimal_input, raw_input};
+use crate::form::Form;
+use crate::input::stream_input;
 use crate::job::Obstacle;
 use crate::lines::Last;
 use crate::status::Status;
@@ -34,7 +35,7 @@ use escpos_picture::laws::drawings_in_turn;
 use escpos_picture::{HEAD_BYTES, LAST_TAG_BYTES, Pen, append_head, append_last_tag, put_items};
 use std::alloc::Global;
 
-/// Reads a stream in hexadecimal from `input` and writes the paper that it prints, in lines of this width, to `output` as a
+/// Reads a stream in this form from `input` and writes the paper that it prints, in lines of this width, to `output` as a
 /// picture, an SVG document, with the last line of the listing under it after a fault or with a half command at the end.
 ///
 /// The statuses are those of `render`, and so is the one line in place of a picture where the input is too long or isn't
@@ -42,35 +43,17 @@ use std::alloc::Global;
 /// alone. The picture isn't kept.
 pub fn draw<R: ByteIn, W: ByteOut>(
     alloc: Global,
+    form: Form,
     width: LineWidth,
     input: &mut R,
     output: &mut W,
 ) -> Status
-    ensures draws { IfSome (R.to_come input.old) (λ text. DrawsInput width (job_end (W.written output.old) (W.written output.new) (W.failed output.new) result) text) }
+    ensures draws { IfSome (R.to_come input.old) (λ given. DrawsInput form width (job_end (W.written output.old) (W.written output.new) (W.failed output.new) result) given) }
     ensures fair { IsFair result (R.failed input.new) (W.failed output.old, W.failed output.new)
         (R.pull_count input.old, R.pull_count input.new) }
     ensures nothing_put { IsTrue (R.failed input.new) → output.new ≡ output.old }
 {
-    match hexadecimal_input(alloc, input) {
-        Ok(bytes) => draw_bytes(alloc, width, &bytes, output),
-        Err(fault) => refuse(fault, output),
-    }
-}
-
-/// Reads a stream from `input`, as it is, and writes the paper that it prints, in lines of this width, to `output` as a picture, as
-/// `draw` does.
-pub fn draw_raw<R: ByteIn, W: ByteOut>(
-    alloc: Global,
-    width: LineWidth,
-    input: &mut R,
-    output: &mut W,
-) -> Status
-    ensures draws { IfSome (R.to_come input.old) (λ bytes. DrawsRaw width (job_end (W.written output.old) (W.written output.new) (W.failed output.new) result) bytes) }
-    ensures fair { IsFair result (R.failed input.new) (W.failed output.old, W.failed output.new)
-        (R.pull_count input.old, R.pull_count input.new) }
-    ensures nothing_put { IsTrue (R.failed input.new) → output.new ≡ output.old }
-{
-    match raw_input(alloc, input) {
+    match stream_input(alloc, form, input) {
         Ok(bytes) => draw_bytes(alloc, width, &bytes, output),
         Err(fault) => refuse(fault, output),
     }

@@ -1,10 +1,10 @@
-//! The job `encode`: a receipt in JSON as the bytes of its commands, in hexadecimal or as they are.
+//! The job `encode`: a receipt in JSON as the bytes of its commands, in either form.
 
 ghost use Rattle.std.specs.Prelude.{◌≡◌, ◌≢◌, ℕ, List, IfOk, IfSome, IsErrOf, IsTrue, flat_map};
 ghost use Rattle.escpos_command.specs.CommandTable.{row, spell};
 ghost use Rattle.escpos_io.specs.Giving.{IsGiven};
 ghost use Rattle.escpos_io.specs.Putting.{passage};
-ghost use Rattle.escpos_jobs.specs.Encode.{Encodes, EncodesAs, EncodesRaw, EncodesTextAs};
+ghost use Rattle.escpos_jobs.specs.Encode.{Encodes, EncodesAs, EncodesTextAs};
 ghost use Rattle.escpos_receipt.specs.declared.json.JsonError.{JsonError};
 ghost use Rattle.escpos_receipt.specs.declared.json.JsonFault.{JsonFault};
 ghost use Rattle.escpos_receipt.specs.Describes.{IsFaultWith};
@@ -14,6 +14,7 @@ ghost use Rattle.escpos_jobs.specs.Ending.{IsFair, PrintsText, job_end};
 
 use crate::byte_form::{ByteForm, Hexadecimal, Raw};
 use crate::ending::refuse;
+use crate::form::Form;
 use crate::input::{INPUT_LIMIT, InputFault};
 use crate::receipt_input::refuse_text;
 use crate::status::Status;
@@ -22,8 +23,8 @@ use escpos_io::{ByteIn, ByteOut, Device, Gather, laws, read_to_end};
 use escpos_receipt::{Entry, JsonError, ReceiptOptions, ReceiptText};
 use std::alloc::Global;
 
-/// Reads a receipt in JSON from `input`, with these options, and prints the bytes of its commands on `output`, in hexadecimal and
-/// in one line.
+/// Reads a receipt in JSON from `input`, with these options, and prints the bytes of its commands on `output` in this form:
+/// hexadecimal digits in one line, or the bytes themselves.
 ///
 /// The status is `Good` if the text describes a receipt. It is `Refused` if the input is too long or the text gives no
 /// receipt, for which the one line that says why is printed. It is `Memory` if an allocation failed: then the line `memory`
@@ -31,35 +32,23 @@ use std::alloc::Global;
 /// one of them has failed in this call; `Usage` never comes. `input` is pulled at most 16,777,217 times.
 pub fn encode<R: ByteIn, W: ByteOut>(
     alloc: Global,
+    form: Form,
     options: &ReceiptOptions,
     input: &mut R,
     output: &mut W,
 ) -> Status
-    ensures encodes { IfSome (R.to_come input.old) (λ text. Encodes options.now (job_end (W.written output.old) (W.written output.new) (W.failed output.new) result) text) }
+    ensures encodes { IfSome (R.to_come input.old) (λ text. Encodes form options.now (job_end (W.written output.old) (W.written output.new) (W.failed output.new) result) text) }
     ensures fair { IsFair result (R.failed input.new) (W.failed output.old, W.failed output.new)
         (R.pull_count input.old, R.pull_count input.new) }
     ensures nothing_put { IsTrue (R.failed input.new) → output.new ≡ output.old }
 {
-    encode_as::<Hexadecimal, R, W>(alloc, options, input, output)
+    match form {
+        Form::Hexadecimal => encode_as::<Hexadecimal, R, W>(alloc, options, input, output),
+        Form::Raw => encode_as::<Raw, R, W>(alloc, options, input, output),
+    }
 }
 
-/// Reads a receipt in JSON from `input`, and prints the bytes of its commands on `output`, as they are. What is refused, and
-/// with which line and status, is as for `encode`.
-pub fn encode_raw<R: ByteIn, W: ByteOut>(
-    alloc: Global,
-    options: &ReceiptOptions,
-    input: &mut R,
-    output: &mut W,
-) -> Status
-    ensures encodes { IfSome (R.to_come input.old) (λ text. EncodesRaw options.now (job_end (W.written output.old) (W.written output.new) (W.failed output.new) result) text) }
-    ensures fair { IsFair result (R.failed input.new) (W.failed output.old, W.failed output.new)
-        (R.pull_count input.old, R.pull_count input.new) }
-    ensures nothing_put { IsTrue (R.failed input.new) → output.new ≡ output.old }
-{
-    encode_as::<Raw, R, W>(alloc, options, input, output)
-}
-
-// The same for either form.
+// The same in the form `F`.
 fn encode_as<F: ByteForm, R: ByteIn, W: ByteOut>(
     alloc: Global,
     options: &ReceiptOptions,

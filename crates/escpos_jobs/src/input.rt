@@ -1,10 +1,11 @@
 //! Input: all of a source, read to its end, as its bytes or as those that it writes in hexadecimal.
 
-ghost use Rattle.std.specs.Prelude.{◌≡◌, ◌+◌, ◌<◌, ◌≤◌, length, IfOk, OnOk, IfSome, IsErr, IsErrOf, IsTrue};
+ghost use Rattle.std.specs.Prelude.{◌≡◌, ◌+◌, ◌<◌, ◌≤◌, length, Ok, IfOk, OnOk, IfSome, IsErr, IsErrOf, IsTrue};
 ghost use Rattle.hex.specs.Hex.{decode_of};
 ghost use Rattle.escpos_jobs.specs.Hexadecimal.{IsHexadecimal, digits_of};
-ghost use Rattle.escpos_jobs.specs.Input.{fault_of_reading};
+ghost use Rattle.escpos_jobs.specs.Input.{fault_of_reading, stream_of};
 
+use crate::form::Form;
 use crate::hexadecimal::{NotHexadecimal, bytes_of};
 use escpos_io::{ByteIn, ReadError, read_to_end};
 use std::alloc::Global;
@@ -81,4 +82,26 @@ pub fn hexadecimal_input<R: ByteIn>(alloc: Global, input: &mut R) -> Result<Vec<
 {
     let text = read_to_end(alloc, input, INPUT_LIMIT)?;
     Ok(bytes_of(text)?)
+}
+
+/// The bytes of the stream that `input` gives in this form. At most 16,777,217 bytes are pulled, in at most as many calls.
+pub fn stream_input<R: ByteIn>(
+    alloc: Global,
+    form: Form,
+    input: &mut R,
+) -> Result<Vec<u8>, InputFault>
+    ensures bytes { IfOk result (λ bytes. IfSome (R.to_come input.old) (λ given.
+        (length given ≤ INPUT_LIMIT) × (stream_of form given ≡ Ok bytes.items))) }
+    ensures too_long { IsErrOf result InputFault.TooLong → IfSome (R.to_come input.old) (λ given. INPUT_LIMIT < length given) }
+    ensures not_hexadecimal { IsErrOf result InputFault.NotHexadecimal → IfSome (R.to_come input.old) (λ given.
+        (length given ≤ INPUT_LIMIT) × IsErr (stream_of form given)) }
+    ensures device { IsErrOf result InputFault.Device → IsTrue (R.failed input.new) }
+    ensures not_failed { OnOk result (¬ IsTrue (R.failed input.new)) }
+    ensures not_hidden { IsTrue (R.failed input.new) → IsErrOf result InputFault.Device }
+    ensures pulls { R.pull_count input.new ≤ R.pull_count input.old + INPUT_LIMIT + 1 }
+{
+    match form {
+        Form::Hexadecimal => hexadecimal_input(alloc, input),
+        Form::Raw => raw_input(alloc, input),
+    }
 }

@@ -1,4 +1,4 @@
-//! What `check` and `render` share: input, in hexadecimal or as it is, is read as a stream of commands, what they give is
+//! What `check` and `render` share: input, in either form, is read as a stream of commands, what they give is
 //! printed, then a last line, and a status is returned.
 //!
 //! What the commands give is left to the job: `check` and `render` are two.
@@ -8,10 +8,11 @@ ghost use Rattle.escpos_command.specs.declared.command.Command.{Command};
 ghost use Rattle.escpos_jobs.specs.LastText.{last_text};
 ghost use Rattle.escpos_io.specs.Gather.{Carries, Gathered};
 ghost use Rattle.escpos_jobs.specs.Ending.{IsFair, PrintsText, job_end};
-ghost use Rattle.escpos_jobs.specs.Report.{Shape, Reports, Runs, RunsRaw};
+ghost use Rattle.escpos_jobs.specs.Report.{Shape, Reports, Runs};
 
 use crate::ending::{refuse, status_of};
-use crate::input::{hexadecimal_input, raw_input};
+use crate::form::Form;
+use crate::input::stream_input;
 use crate::lines::Last;
 use crate::status::Status;
 use escpos_command::LineWidth;
@@ -65,7 +66,7 @@ pub trait Job<W: ByteOut>: Consumer<W, Refusal = Obstacle> + Drop {
     ghost no_device: { (last now : Self × W) → Self.refused last now obstacle.Device → IsTrue (W.failed now.1) };
 }
 
-/// Reads a stream in hexadecimal from `input`, and prints what the job `J` makes of it on `output`, for paper with lines of this
+/// Reads a stream in this form from `input`, and prints what the job `J` makes of it on `output`, for paper with lines of this
 /// width.
 ///
 /// The status is `Good` if all bytes are read with nothing left. It is `Refused` after a fault, with a half command at the
@@ -75,37 +76,18 @@ pub trait Job<W: ByteOut>: Consumer<W, Refusal = Obstacle> + Drop {
 /// never comes. `input` is pulled at most 16,777,217 times.
 pub fn run<R: ByteIn, W: ByteOut, J: Job<W>>(
     alloc: Global,
+    form: Form,
     width: LineWidth,
     input: &mut R,
     output: &mut W,
 ) -> Status
-    ensures runs { IfSome (R.to_come input.old) (λ text.
-        Runs (J.shape width) (job_end (W.written output.old) (W.written output.new) (W.failed output.new) result) text) }
+    ensures runs { IfSome (R.to_come input.old) (λ given.
+        Runs (J.shape width) form (job_end (W.written output.old) (W.written output.new) (W.failed output.new) result) given) }
     ensures fair { IsFair result (R.failed input.new) (W.failed output.old, W.failed output.new)
         (R.pull_count input.old, R.pull_count input.new) }
     ensures nothing_put { IsTrue (R.failed input.new) → output.new ≡ output.old }
 {
-    match hexadecimal_input(alloc, input) {
-        Ok(bytes) => report::<W, J>(alloc, width, &bytes, output),
-        Err(fault) => refuse(fault, output),
-    }
-}
-
-/// Reads a stream from `input`, as it is, and prints what the job `J` makes of it on `output`, as `run` does. `run` says which status comes
-/// when; no input is refused as not hexadecimal.
-pub fn run_raw<R: ByteIn, W: ByteOut, J: Job<W>>(
-    alloc: Global,
-    width: LineWidth,
-    input: &mut R,
-    output: &mut W,
-) -> Status
-    ensures runs { IfSome (R.to_come input.old) (λ bytes.
-        RunsRaw (J.shape width) (job_end (W.written output.old) (W.written output.new) (W.failed output.new) result) bytes) }
-    ensures fair { IsFair result (R.failed input.new) (W.failed output.old, W.failed output.new)
-        (R.pull_count input.old, R.pull_count input.new) }
-    ensures nothing_put { IsTrue (R.failed input.new) → output.new ≡ output.old }
-{
-    match raw_input(alloc, input) {
+    match stream_input(alloc, form, input) {
         Ok(bytes) => report::<W, J>(alloc, width, &bytes, output),
         Err(fault) => refuse(fault, output),
     }

@@ -21,6 +21,7 @@ pub mod draw;
 pub mod emulate;
 pub mod encode;
 pub mod ending;
+pub mod form;
 pub mod hexadecimal;
 pub mod image;
 pub mod input;

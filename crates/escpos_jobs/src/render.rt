@@ -9,12 +9,13 @@ ghost use Rattle.escpos_paper.specs.Torn.{TornIs, bare};
 ghost use Rattle.escpos_paper.specs.declared.paper.TheConstants.{MOST_ITEMS};
 ghost use Rattle.escpos_jobs.specs.declared.job.Obstacle.TheVariants as obstacle;
 ghost use Rattle.escpos_jobs.specs.Ending.{IsFair, job_end};
-ghost use Rattle.escpos_jobs.specs.Render.{RendersInput, RendersRaw, RendersText, RendersTextRaw, text_shape};
+ghost use Rattle.escpos_jobs.specs.Render.{Renders, RendersText, text_shape};
 ghost use Rattle.escpos_jobs.specs.RenderSteps.{IsRendered};
 ghost use Rattle.escpos_jobs.specs.Obstacle.{device_is_no_memory, memory_is_no_device};
 
+use crate::form::Form;
 use crate::item_form::{ItemForm, Plain, Styled};
-use crate::job::{Job, Obstacle, run, run_raw};
+use crate::job::{Job, Obstacle, run};
 use crate::lines::Last;
 use crate::status::Status;
 use escpos_command::{Command, LineWidth};
@@ -24,71 +25,41 @@ use escpos_paper::{Item, Page};
 use std::alloc::Global;
 use std::marker::PhantomData;
 
-/// Reads a stream in hexadecimal from `input` and writes the paper that it prints, in lines of this width, to `output`, an item
+/// Reads a stream in this form from `input` and writes the paper that it prints, in lines of this width, to `output`, an item
 /// a line, and the last line of the listing after a fault or with a half command at the end.
 ///
 /// `run` says which status comes when. With `Memory` the line `memory` follows the items of the commands so far. No item is
 /// kept once the next command is read.
 pub fn render<R: ByteIn, W: ByteOut>(
     alloc: Global,
+    form: Form,
     width: LineWidth,
     input: &mut R,
     output: &mut W,
 ) -> Status
-    ensures renders { IfSome (R.to_come input.old) (λ text. RendersInput width (job_end (W.written output.old) (W.written output.new) (W.failed output.new) result) text) }
+    ensures renders { IfSome (R.to_come input.old) (λ given. Renders form width (job_end (W.written output.old) (W.written output.new) (W.failed output.new) result) given) }
     ensures fair { IsFair result (R.failed input.new) (W.failed output.old, W.failed output.new)
         (R.pull_count input.old, R.pull_count input.new) }
     ensures nothing_put { IsTrue (R.failed input.new) → output.new ≡ output.old }
 {
-    run::<R, W, Rendering<Styled>>(alloc, width, input, output)
+    run::<R, W, Rendering<Styled>>(alloc, form, width, input, output)
 }
 
-/// Reads a stream from `input`, as it is, and writes the paper that it prints, in lines of this width, to `output`, as `render`
-/// does.
-pub fn render_raw<R: ByteIn, W: ByteOut>(
-    alloc: Global,
-    width: LineWidth,
-    input: &mut R,
-    output: &mut W,
-) -> Status
-    ensures renders { IfSome (R.to_come input.old) (λ bytes. RendersRaw width (job_end (W.written output.old) (W.written output.new) (W.failed output.new) result) bytes) }
-    ensures fair { IsFair result (R.failed input.new) (W.failed output.old, W.failed output.new)
-        (R.pull_count input.old, R.pull_count input.new) }
-    ensures nothing_put { IsTrue (R.failed input.new) → output.new ≡ output.old }
-{
-    run_raw::<R, W, Rendering<Styled>>(alloc, width, input, output)
-}
-
-/// Reads a stream in hexadecimal from `input` and writes the paper that it prints, in lines of this width, to `output` as plain
+/// Reads a stream in this form from `input` and writes the paper that it prints, in lines of this width, to `output` as plain
 /// text: as `render` does, but each row in the characters that its cells show, in UTF-8, and U+FFFD for each that isn't known.
 pub fn render_text<R: ByteIn, W: ByteOut>(
     alloc: Global,
+    form: Form,
     width: LineWidth,
     input: &mut R,
     output: &mut W,
 ) -> Status
-    ensures renders { IfSome (R.to_come input.old) (λ text. RendersText width (job_end (W.written output.old) (W.written output.new) (W.failed output.new) result) text) }
+    ensures renders { IfSome (R.to_come input.old) (λ given. RendersText form width (job_end (W.written output.old) (W.written output.new) (W.failed output.new) result) given) }
     ensures fair { IsFair result (R.failed input.new) (W.failed output.old, W.failed output.new)
         (R.pull_count input.old, R.pull_count input.new) }
     ensures nothing_put { IsTrue (R.failed input.new) → output.new ≡ output.old }
 {
-    run::<R, W, Rendering<Plain>>(alloc, width, input, output)
-}
-
-/// Reads a stream from `input`, as it is, and writes the paper that it prints, in lines of this width, to `output` as plain text, as
-/// `render_text` does.
-pub fn render_text_raw<R: ByteIn, W: ByteOut>(
-    alloc: Global,
-    width: LineWidth,
-    input: &mut R,
-    output: &mut W,
-) -> Status
-    ensures renders { IfSome (R.to_come input.old) (λ bytes. RendersTextRaw width (job_end (W.written output.old) (W.written output.new) (W.failed output.new) result) bytes) }
-    ensures fair { IsFair result (R.failed input.new) (W.failed output.old, W.failed output.new)
-        (R.pull_count input.old, R.pull_count input.new) }
-    ensures nothing_put { IsTrue (R.failed input.new) → output.new ≡ output.old }
-{
-    run_raw::<R, W, Rendering<Plain>>(alloc, width, input, output)
+    run::<R, W, Rendering<Plain>>(alloc, form, width, input, output)
 }
 
 // The paper that the commands so far have printed on, all of which is torn off, and the text of it, in the form `F`, that isn't

@@ -1,8 +1,8 @@
 //! The rows of `draw`: every number of these documents is worked out from the rules of docs/PROFILE.md, not read off.
 
+use escpos_jobs::form::Form;
 use escpos_jobs::status::Status;
-use escpos_jobs::task::Task;
-use escpos_test_jobs::prints;
+use escpos_test_jobs::{draw_task, prints};
 use std::alloc::Global;
 use std::process::Abort;
 
@@ -314,7 +314,7 @@ fn is_drawn(rt: &impl Abort, alloc: Global, (input, paper, height, body): Drawn)
     assert!(rt;
         prints(
             alloc,
-            Task::Draw,
+            draw_task(Form::Hexadecimal),
             input.as_bytes(),
             (wanted.as_slice(), status)
         )
@@ -338,10 +338,17 @@ fn draws_bytes_and_refuses_input(rt: HostRuntime) {
     assert!(&rt;
         prints(
             alloc,
-            Task::DrawRaw,
+            draw_task(Form::Raw),
             b"A\n",
             (wanted.as_slice(), Status::Good)
         )
     );
-    assert!(&rt; prints(alloc, Task::Draw, b"4", (b"refused hex\n", Status::Refused)));
+    assert!(&rt;
+        prints(
+            alloc,
+            draw_task(Form::Hexadecimal),
+            b"4",
+            (b"refused hex\n", Status::Refused)
+        )
+    );
 }

@@ -1,9 +1,10 @@
 //! The paper of lines of other widths.
 
 use escpos_command::LineWidth;
+use escpos_jobs::form::Form;
 use escpos_jobs::status::Status;
 use escpos_jobs::task::Task;
-use escpos_test_jobs::{Row, performs_rows};
+use escpos_test_jobs::{Row, performs_rows, render_task};
 use std::process::Abort;
 
 fn wide(rt: &impl Abort, dots: u16) -> LineWidth {
@@ -33,9 +34,15 @@ const USUAL: [Row; 1] = [(
 #[test]
 fn papers_of_widths(rt: HostRuntime) {
     let (narrow, wide) = (wide(&rt, 384), wide(&rt, 576));
-    let task = Task::RenderRawAt { width: narrow };
+    let task = Task::Render {
+        form: Form::Raw,
+        width: narrow,
+    };
     assert!(&rt; performs_rows(rt.alloc(), task, &NARROW, &[1, 4096]));
-    let task = Task::RenderRawAt { width: wide };
+    let task = Task::Render {
+        form: Form::Raw,
+        width: wide,
+    };
     assert!(&rt; performs_rows(rt.alloc(), task, &WIDE, &[1, 4096]));
-    assert!(&rt; performs_rows(rt.alloc(), Task::RenderRaw, &USUAL, &[4096]));
+    assert!(&rt; performs_rows(rt.alloc(), render_task(Form::Raw), &USUAL, &[4096]));
 }

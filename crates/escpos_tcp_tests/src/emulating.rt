@@ -307,10 +307,12 @@ fn emulated_condition(rt: HostRuntime) {
         listener: &listener,
         client: &client,
     };
-    let task = Task::EmulateIn {
+    let task = Task::Emulate {
         address: address.into(),
-        links: 2,
+        links: Some(2),
         condition,
+        width: LineWidth::usual(),
+        file: None,
     };
     let mut room = [0; 128];
     let mut source = MemoryIn::new(b"", 1);
@@ -380,9 +382,12 @@ fn followed_condition(rt: HostRuntime) {
         near_end: true,
         ..ONLINE
     };
-    let task = &Task::Follow {
+    let task = &Task::Emulate {
         address: address.into(),
+        links: None,
         condition,
+        width: LineWidth::usual(),
+        file: None,
     };
     let text = b"link 1 read 6 consumed 6 written 1 Ended\nrow left Hi\nfeed 1\n\
         link 2 read 3 consumed 2 written 0 Fault\nrow left A\nfeed 1\n\

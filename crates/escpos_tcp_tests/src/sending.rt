@@ -5,8 +5,10 @@ use crate::support::sockets::{
     ANSWERED_BYTES, NEVER, Prepared, answered_link, connects_and_says, listens, nobody_waits,
     reads_to_end,
 };
+use escpos_command::LineWidth;
 use escpos_io::{ByteIn, MemoryIn, MemoryOut};
 use escpos_jobs::address::Address;
+use escpos_jobs::emulate::ONLINE;
 use escpos_jobs::printer_link::{PrinterLink, Printers};
 use escpos_jobs::send::{Marks, send_on, send_over, send_to};
 use escpos_jobs::status::Status;
@@ -102,6 +104,8 @@ fn finds_no_device<N: Printers + Net<Listener = TcpListener> + Abort>(
         address: Address::of_text(text).expect(rt, "an address"),
         first: 0,
         openings: 1,
+        wait: None,
+        options: ReceiptOptions::usual(),
     };
     let mut room = [0; 64];
     let mut input = MemoryIn::new(S.0, 100);
@@ -250,26 +254,29 @@ fn no_network(rt: HostRuntime) {
         address: address.into(),
         first: 0,
         openings: 3,
+        wait: None,
+        options: ReceiptOptions::usual(),
+    };
+    let round = &Task::Loop {
+        width: LineWidth::usual(),
     };
     let rows: [(Task, &[u8], &[u8], Status); 5] = [
         (
             Task::Emulate {
                 address: address.into(),
-                links: 1,
+                links: Some(1),
+                condition: ONLINE,
+                width: LineWidth::usual(),
+                file: None,
             },
             b"",
             b"",
             Status::Device,
         ),
         (*send, S.0, b"no link\n", Status::Device),
-        (Task::Loop, S.0, b"no link\n", Status::Device),
+        (*round, S.0, b"no link\n", Status::Device),
         (*send, b"[1]", b"refused 6 BadShape 0\n", Status::Refused),
-        (
-            Task::Loop,
-            b"[1]",
-            b"refused 6 BadShape 0\n",
-            Status::Refused,
-        ),
+        (*round, b"[1]", b"refused 6 BadShape 0\n", Status::Refused),
     ];
     for (task, input, output, status) in rows {
         let mut source = MemoryIn::new(input, 100);
@@ -318,6 +325,8 @@ fn tasks_over_links(rt: HostRuntime) {
         address: address.into(),
         first: 0,
         openings: 1,
+        wait: None,
+        options: ReceiptOptions::usual(),
     };
     let wanted = ("recorded 0\nnext 2\n", Status::Good);
     performs_over(&rt, rt.alloc(), &net, send, S.0, wanted);
@@ -325,7 +334,10 @@ fn tasks_over_links(rt: HostRuntime) {
     let _second = connects_and_says(&rt, address, b"Yo\n");
     let emulate = Task::Emulate {
         address: address.into(),
-        links: 2,
+        links: Some(2),
+        condition: ONLINE,
+        width: LineWidth::usual(),
+        file: None,
     };
     let text = "link 1 read 3 consumed 3 written 0 Ended\n\
         link 2 read 3 consumed 3 written 0 Ended\n\

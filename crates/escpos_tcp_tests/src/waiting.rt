@@ -107,11 +107,12 @@ fn prints<N: Printers + Net<Listener = TcpListener> + Abort>(
 
 // The tasks that wait for a printer, a second at most.
 fn waiting(address: SocketAddrV4) -> (Task, Task) {
-    let send = Task::SendWithin {
+    let send = Task::Send {
         address: address.into(),
         first: 0,
         openings: 3,
-        wait: 1,
+        wait: Some(1),
+        options: ReceiptOptions::usual(),
     };
     let status = Task::Status {
         address: address.into(),
@@ -200,29 +201,7 @@ fn limits_of_send(rt: HostRuntime) {
         address,
         client: &client,
     };
-    let send = |wait| Task::SendWithin {
-        address: address.into(),
-        first: 0,
-        openings: 1,
-        wait,
-    };
-    let no_link = ("no link\n", Status::Device);
-    ends_in_an_hour(&rt, rt.alloc(), &net, send(60), S.0, no_link);
-    let recorded = ("recorded 0\nnext 2\n", Status::Good);
-    ends_in_an_hour(&rt, rt.alloc(), &net, send(3_600), S.0, recorded);
-    is_limited(&rt, &client);
-}
-
-// The same of `send` with options.
-#[test]
-fn limits_of_send_with_options(rt: HostRuntime) {
-    let (listener, address) = listens(&rt);
-    let (client, _printer) = answered_link(&rt, (&listener, address));
-    let net = InAnHour {
-        address,
-        client: &client,
-    };
-    let send = |wait| Task::SendWith {
+    let send = |wait| Task::Send {
         address: address.into(),
         first: 0,
         openings: 1,

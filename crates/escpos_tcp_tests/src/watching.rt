@@ -399,12 +399,12 @@ fn watched_without_files(rt: HostRuntime) {
         listener: &listener,
         client: &client,
     };
-    let task = Task::EmulateBy {
+    let task = Task::Emulate {
         address: address.into(),
         links: None,
         condition: NEAR_END,
         width: LineWidth::usual(),
-        file: AddressText::of("no-such-file").expect(&rt, "a path"),
+        file: Some(AddressText::of("no-such-file").expect(&rt, "a path")),
     };
     let mut room = [0; 192];
     let mut source = MemoryIn::new(b"", 1);

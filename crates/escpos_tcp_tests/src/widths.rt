@@ -40,7 +40,7 @@ fn ends_in<N: Printers + Net<Listener = TcpListener>>(
 // The pair is as wide as the line, and thirteen characters are two rows.
 #[test]
 fn loop_at_a_width(rt: HostRuntime) {
-    let task = Task::LoopAt { width: narrow(&rt) };
+    let task = Task::Loop { width: narrow(&rt) };
     let input = b"[{\"pair\":[\"Tea\",\"2.10\"]},{\"line\":\"abcdefghijklm\"}]".as_slice();
     let text =
         b"row left Tea     2.10\nfeed 1\nrow left abcdefghijkl\nfeed 1\nrow left m\nfeed 1\nrecorded 0\n";
@@ -56,11 +56,12 @@ fn emulate_at_a_width(rt: HostRuntime) {
         listener: &listener,
         client: &client,
     };
-    let task = Task::EmulateAt {
+    let task = Task::Emulate {
         address: address.into(),
-        links: 1,
+        links: Some(1),
         condition: ONLINE,
         width: narrow(&rt),
+        file: None,
     };
     let text =
         b"link 1 read 14 consumed 14 written 0 Ended\nrow left abcdefghijkl\nfeed 1\nrow left m\nfeed 1\n";
@@ -77,10 +78,12 @@ fn follow_at_a_width(rt: HostRuntime) {
         listener: &listener,
         client: &client,
     };
-    let task = Task::FollowAt {
+    let task = Task::Emulate {
         address: address.into(),
+        links: None,
         condition: ONLINE,
         width: narrow(&rt),
+        file: None,
     };
     let text =
         b"link 1 read 14 consumed 14 written 0 Ended\nrow left abcdefghijkl\nfeed 1\nrow left m\nfeed 1\n";
@@ -102,7 +105,7 @@ fn send_with_options(rt: HostRuntime) {
         width: narrow(&rt),
         replacement: Some(Replacement::new(b'?').expect(&rt, "a replacement")),
     };
-    let task = Task::SendWith {
+    let task = Task::Send {
         address: address.into(),
         first: 0,
         openings: 1,

@@ -4,5 +4,7 @@
 #![tactic(auto)]
 
 mod jobs;
+mod tasks;
 
 pub use jobs::{NoNetwork, Row, is_whole, performs, performs_rows, prints, run_job};
+pub use tasks::{check_task, draw_task, encode_task, render_task, render_text_task};

@@ -4,9 +4,9 @@ use super::document;
 use escpos_command::LineWidth;
 use escpos_io::{MemoryIn, Outgoing};
 use escpos_jobs::draw::draw;
+use escpos_jobs::form::Form;
 use escpos_jobs::status::Status;
-use escpos_jobs::task::Task;
-use escpos_test_jobs::prints;
+use escpos_test_jobs::{draw_task, prints};
 use escpos_test_receipts::joined;
 use std::alloc::Global;
 use std::process::Abort;
@@ -113,7 +113,14 @@ fn is_boxed(rt: &impl Abort, alloc: Global, (level, character, count, side): Lar
     );
     let body = str::from_utf8(&body).expect(rt, "text");
     let wanted = document(rt, alloc, &height, &height, body);
-    assert!(rt; prints(alloc, Task::Draw, &stream, (&wanted, Status::Good)));
+    assert!(rt;
+        prints(
+            alloc,
+            draw_task(Form::Hexadecimal),
+            &stream,
+            (&wanted, Status::Good)
+        )
+    );
 }
 
 // One character more makes the next version, which has four modules more, or is held by none.

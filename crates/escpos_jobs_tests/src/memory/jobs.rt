@@ -6,14 +6,17 @@
 use escpos_command::LineWidth;
 use escpos_host::{JsonError, Receipt};
 use escpos_io::{ByteIn, MemoryIn, MemoryOut};
-use escpos_jobs::input::{InputFault, hexadecimal_input, raw_input};
+use escpos_jobs::form::Form;
+use escpos_jobs::input::{InputFault, stream_input};
 use escpos_jobs::receipt_input::{NoReceipt, read_receipt};
 use escpos_jobs::script::{NoEvent, event_of};
 use escpos_jobs::status::Status;
 use escpos_jobs::task::Task;
 use escpos_link::Event;
 use escpos_receipt::ReceiptOptions;
-use escpos_test_jobs::{NoNetwork, is_whole, run_job};
+use escpos_test_jobs::{
+    NoNetwork, check_task, draw_task, encode_task, is_whole, render_task, render_text_task, run_job,
+};
 use escpos_test_receipts::{S, are_line};
 use std::alloc::Global;
 use std::process::Abort;
@@ -114,16 +117,11 @@ const PLAYED: (&[u8], Status) = (
 // A job by its own call, or what is asked for by `perform`, without a network.
 #[derive(Clone, Copy)]
 enum Job {
-    Check,
-    Render,
-    Draw,
-    Encode,
-    CheckRaw,
-    RenderRaw,
-    DrawRaw,
-    EncodeRaw,
-    RenderText,
-    RenderTextRaw,
+    Check(Form),
+    Render(Form),
+    RenderText(Form),
+    Draw(Form),
+    Encode(Form),
     Image,
     Play,
     Perform(Task),
@@ -131,25 +129,25 @@ enum Job {
 
 fn do_job(alloc: Global, job: Job, source: &mut MemoryIn, sink: &mut MemoryOut) -> Status {
     match job {
-        Job::Check => escpos_jobs::check::check(alloc, source, sink),
-        Job::Render => escpos_jobs::render::render(alloc, LineWidth::usual(), source, sink),
-        Job::Draw => escpos_jobs::draw::draw(alloc, LineWidth::usual(), source, sink),
-        Job::Encode => escpos_jobs::encode::encode(alloc, &ReceiptOptions::usual(), source, sink),
-        Job::CheckRaw => escpos_jobs::check::check_raw(alloc, source, sink),
-        Job::RenderRaw => escpos_jobs::render::render_raw(alloc, LineWidth::usual(), source, sink),
-        Job::DrawRaw => escpos_jobs::draw::draw_raw(alloc, LineWidth::usual(), source, sink),
-        Job::EncodeRaw => escpos_jobs::encode::encode_raw(
+        Job::Check(form) => escpos_jobs::check::check(alloc, form, source, sink),
+        Job::Render(form) => escpos_jobs::render::render(
             alloc,
+            form,
+            LineWidth::usual(),
+            source,
+            sink,
+        ),
+        Job::RenderText(form) => {
+            escpos_jobs::render::render_text(alloc, form, LineWidth::usual(), source, sink)
+        }
+        Job::Draw(form) => escpos_jobs::draw::draw(alloc, form, LineWidth::usual(), source, sink),
+        Job::Encode(form) => escpos_jobs::encode::encode(
+            alloc,
+            form,
             &ReceiptOptions::usual(),
             source,
             sink,
         ),
-        Job::RenderText => {
-            escpos_jobs::render::render_text(alloc, LineWidth::usual(), source, sink)
-        }
-        Job::RenderTextRaw => {
-            escpos_jobs::render::render_text_raw(alloc, LineWidth::usual(), source, sink)
-        }
         Job::Image => escpos_jobs::image::image(alloc, LineWidth::usual(), None, source, sink),
         Job::Play => escpos_jobs::play::play(alloc, source, sink),
         Job::Perform(task) => run_job(&NoNetwork, alloc, Ok(task), source, sink),
@@ -175,55 +173,115 @@ fn puts_at_last(rt: &impl Abort, alloc: Global, job: Job, text: &[u8], wanted: (
 
 #[test]
 fn check_refused(rt: HostRuntime) {
-    puts_at_last(&rt, rt.alloc(), Job::Check, STREAM_TEXT, LISTED_STREAM);
+    puts_at_last(
+        &rt,
+        rt.alloc(),
+        Job::Check(Form::Hexadecimal),
+        STREAM_TEXT,
+        LISTED_STREAM,
+    );
 }
 
 #[test]
 fn render_refused(rt: HostRuntime) {
-    puts_at_last(&rt, rt.alloc(), Job::Render, STREAM_TEXT, RENDERED_STREAM);
+    puts_at_last(
+        &rt,
+        rt.alloc(),
+        Job::Render(Form::Hexadecimal),
+        STREAM_TEXT,
+        RENDERED_STREAM,
+    );
 }
 
 #[test]
 fn draw_refused(rt: HostRuntime) {
-    puts_at_last(&rt, rt.alloc(), Job::Draw, DRAWN_TEXT, DRAWN_STREAM);
+    puts_at_last(
+        &rt,
+        rt.alloc(),
+        Job::Draw(Form::Hexadecimal),
+        DRAWN_TEXT,
+        DRAWN_STREAM,
+    );
 }
 
 #[test]
 fn draw_raw_refused(rt: HostRuntime) {
-    puts_at_last(&rt, rt.alloc(), Job::DrawRaw, DRAWN_BYTES, DRAWN_STREAM);
+    puts_at_last(
+        &rt,
+        rt.alloc(),
+        Job::Draw(Form::Raw),
+        DRAWN_BYTES,
+        DRAWN_STREAM,
+    );
 }
 
 #[test]
 fn encode_refused(rt: HostRuntime) {
-    puts_at_last(&rt, rt.alloc(), Job::Encode, RECEIPT_TEXT, ENCODED_LINE);
+    puts_at_last(
+        &rt,
+        rt.alloc(),
+        Job::Encode(Form::Hexadecimal),
+        RECEIPT_TEXT,
+        ENCODED_LINE,
+    );
 }
 
 #[test]
 fn check_raw_refused(rt: HostRuntime) {
-    puts_at_last(&rt, rt.alloc(), Job::CheckRaw, STREAM_BYTES, LISTED_STREAM);
+    puts_at_last(
+        &rt,
+        rt.alloc(),
+        Job::Check(Form::Raw),
+        STREAM_BYTES,
+        LISTED_STREAM,
+    );
 }
 
 #[test]
 fn render_raw_refused(rt: HostRuntime) {
     let wanted = RENDERED_STREAM;
-    puts_at_last(&rt, rt.alloc(), Job::RenderRaw, STREAM_BYTES, wanted);
+    puts_at_last(
+        &rt,
+        rt.alloc(),
+        Job::Render(Form::Raw),
+        STREAM_BYTES,
+        wanted,
+    );
 }
 
 #[test]
 fn encode_raw_refused(rt: HostRuntime) {
-    puts_at_last(&rt, rt.alloc(), Job::EncodeRaw, RECEIPT_TEXT, ENCODED_BYTES);
+    puts_at_last(
+        &rt,
+        rt.alloc(),
+        Job::Encode(Form::Raw),
+        RECEIPT_TEXT,
+        ENCODED_BYTES,
+    );
 }
 
 #[test]
 fn render_text_refused(rt: HostRuntime) {
     let wanted = RENDERED_STREAM;
-    puts_at_last(&rt, rt.alloc(), Job::RenderText, STREAM_TEXT, wanted);
+    puts_at_last(
+        &rt,
+        rt.alloc(),
+        Job::RenderText(Form::Hexadecimal),
+        STREAM_TEXT,
+        wanted,
+    );
 }
 
 #[test]
 fn render_text_raw_refused(rt: HostRuntime) {
     let wanted = RENDERED_STREAM;
-    puts_at_last(&rt, rt.alloc(), Job::RenderTextRaw, STREAM_BYTES, wanted);
+    puts_at_last(
+        &rt,
+        rt.alloc(),
+        Job::RenderText(Form::Raw),
+        STREAM_BYTES,
+        wanted,
+    );
 }
 
 #[test]
@@ -238,22 +296,19 @@ fn play_refused(rt: HostRuntime) {
 
 #[test]
 fn perform_refused(rt: HostRuntime) {
-    let plain = Task::RenderText {
-        raw: false,
-        width: LineWidth::usual(),
-    };
+    let plain = render_text_task(Form::Hexadecimal);
     let image = Task::Image {
         width: LineWidth::usual(),
         threshold: None,
     };
     for (task, text, wanted) in [
-        (Task::Check, STREAM_TEXT, LISTED_STREAM),
-        (Task::Render, STREAM_TEXT, RENDERED_STREAM),
-        (Task::Draw, DRAWN_TEXT, DRAWN_STREAM),
-        (Task::Encode, RECEIPT_TEXT, ENCODED_LINE),
-        (Task::CheckRaw, STREAM_BYTES, LISTED_STREAM),
-        (Task::RenderRaw, STREAM_BYTES, RENDERED_STREAM),
-        (Task::EncodeRaw, RECEIPT_TEXT, ENCODED_BYTES),
+        (check_task(Form::Hexadecimal), STREAM_TEXT, LISTED_STREAM),
+        (render_task(Form::Hexadecimal), STREAM_TEXT, RENDERED_STREAM),
+        (draw_task(Form::Hexadecimal), DRAWN_TEXT, DRAWN_STREAM),
+        (encode_task(Form::Hexadecimal), RECEIPT_TEXT, ENCODED_LINE),
+        (check_task(Form::Raw), STREAM_BYTES, LISTED_STREAM),
+        (render_task(Form::Raw), STREAM_BYTES, RENDERED_STREAM),
+        (encode_task(Form::Raw), RECEIPT_TEXT, ENCODED_BYTES),
         (plain, STREAM_TEXT, RENDERED_STREAM),
         (image, PICTURE, PICTURE_ENTRY),
         (Task::Play, SCRIPT, PLAYED),
@@ -265,25 +320,16 @@ fn perform_refused(rt: HostRuntime) {
 // A line, a barcode and a raster.
 const STREAM: &[u8] = b"Hi\n\x1Dk\x035512345\x00\x1Dv0\x00\x01\x00\x02\x00\xF0\x0F";
 
-// The bytes of an input, as they are or in hexadecimal.
-fn input_of(alloc: Global, source: &mut MemoryIn, raw: bool) -> Result<Vec<u8>, InputFault> {
-    if raw {
-        raw_input(alloc, source)
-    } else {
-        hexadecimal_input(alloc, source)
-    }
-}
-
-// The same. Where memory is refused the source hasn't failed, and a new one is read.
-fn input_at_last(rt: &impl Abort, alloc: Global, text: &[u8], raw: bool) -> Vec<u8> {
+// The bytes of an input in this form. Where memory is refused the source hasn't failed, and a new one is read.
+fn input_at_last(rt: &impl Abort, alloc: Global, text: &[u8], form: Form) -> Vec<u8> {
     let mut source = MemoryIn::new(text, 7);
-    match input_of(alloc, &mut source, raw) {
+    match stream_input(alloc, form, &mut source) {
         Ok(bytes) => bytes,
         Err(fault) => {
             assert!(rt; fault == InputFault::Memory);
             assert!(rt; !source.has_failed());
             let mut source = MemoryIn::new(text, 7);
-            input_of(alloc, &mut source, raw).expect(rt, "bytes")
+            stream_input(alloc, form, &mut source).expect(rt, "bytes")
         }
     }
 }
@@ -291,13 +337,13 @@ fn input_at_last(rt: &impl Abort, alloc: Global, text: &[u8], raw: bool) -> Vec<
 #[test]
 fn hexadecimal_input_refused(rt: HostRuntime) {
     let text = b"48690A 1d6b0335353132333435 00 1D763000010002 00f00f";
-    let bytes = input_at_last(&rt, rt.alloc(), text, false);
+    let bytes = input_at_last(&rt, rt.alloc(), text, Form::Hexadecimal);
     assert!(&rt; bytes.as_slice() == STREAM);
 }
 
 #[test]
 fn raw_input_refused(rt: HostRuntime) {
-    let bytes = input_at_last(&rt, rt.alloc(), STREAM, true);
+    let bytes = input_at_last(&rt, rt.alloc(), STREAM, Form::Raw);
     assert!(&rt; bytes.as_slice() == STREAM);
 }
 

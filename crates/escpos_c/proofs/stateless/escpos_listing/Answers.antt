@@ -7,4 +7,4 @@ use Rattle.escpos_c.proofs.stateless.escpos_listing.Goals as goal
 pub returns : goal.returns
 returns c =
     told_text (IsText listing_shape) (IsCutShort listing_shape) c.args.bytes.now _ _ _ _ _ c.answer_within.ensures.within _ _ c.new-input.ensures.to_come c.new-text.ensures.written
-    c.check_raw-status.result _ c.answer_within.result c.number.result c.check_raw-status.ensures.checks c.answer_within.ensures.told c.number.ensures
+    c.check-status.result _ c.answer_within.result c.number.result c.check-status.ensures.checks c.answer_within.ensures.told c.number.ensures

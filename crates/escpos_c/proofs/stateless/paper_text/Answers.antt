@@ -7,4 +7,4 @@ use Rattle.escpos_c.proofs.stateless.paper_text.Goals as goal
 pub returns : goal.returns
 returns c =
     told_text (IsText (plain_shape c.args.width)) (IsCutShort (plain_shape c.args.width)) c.args.bytes.now _ _ _ _ _ c.answer_within.ensures.within _ _ c.new-input.ensures.to_come c.new-text.ensures.written
-    c.render_text_raw-status.result _ c.answer_within.result c.number.result c.render_text_raw-status.ensures.renders c.answer_within.ensures.told c.number.ensures
+    c.render_text-status.result _ c.answer_within.result c.number.result c.render_text-status.ensures.renders c.answer_within.ensures.told c.number.ensures

@@ -6,4 +6,4 @@ use Rattle.escpos_c.proofs.stateless.picture.Goals as goal
 pub returns : goal.returns
 returns c =
     told_text (IsPicture c.args.width) (IsShortPicture c.args.width) c.args.bytes.now _ _ _ _ _ c.answer_within.ensures.within _ _ c.new-input.ensures.to_come c.new-text.ensures.written
-    c.draw_raw-status.result _ c.answer_within.result c.number.result c.draw_raw-status.ensures.draws c.answer_within.ensures.told c.number.ensures
+    c.draw-status.result _ c.answer_within.result c.number.result c.draw-status.ensures.draws c.answer_within.ensures.told c.number.ensures
