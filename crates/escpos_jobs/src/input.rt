@@ -68,8 +68,8 @@ pub fn raw_input<R: ByteIn>(alloc: Global, input: &mut R) -> Result<Vec<u8>, Inp
     Ok(read_to_end(alloc, input, INPUT_LIMIT)?)
 }
 
-/// The bytes that `input` writes in hexadecimal. At most 16,777,217 bytes are pulled, in at most as many calls.
-pub fn hexadecimal_input<R: ByteIn>(alloc: Global, input: &mut R) -> Result<Vec<u8>, InputFault>
+// The bytes that `input` writes in hexadecimal.
+fn hexadecimal_input<R: ByteIn>(alloc: Global, input: &mut R) -> Result<Vec<u8>, InputFault>
     ensures bytes { IfOk result (λ bytes. IfSome (R.to_come input.old) (λ text.
         (length text ≤ INPUT_LIMIT) × IsHexadecimal text bytes.items)) }
     ensures too_long { IsErrOf result InputFault.TooLong → IfSome (R.to_come input.old) (λ text. INPUT_LIMIT < length text) }

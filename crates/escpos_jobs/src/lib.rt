@@ -6,8 +6,8 @@
 //! `watch` serves a link to a printer whose sensors are watched, which `condition_file` has read from a file, and `watched_link` prints
 //! what came of it. `job` has what `check` and `render` share,
 //! `script` reads the lines of a script and `script_output` has those that `play` prints, `lines` has the lines of a listing,
-//! `notes` the note on a wrong check digit, `real_time` that on a real-time command in the data of another, `item_form` the two texts of an item on paper, and `paper_text` keeps the paper of `emulate`. `input`, `hexadecimal` and
-//! `receipt_input` read the input, `byte_form` has the two forms in which `encode` writes, `refusal` has the line that refuses
+//! `notes` the note on a wrong check digit, `real_time` that on a real-time command in the data of another, `item_form` the two texts of an item on paper, and `paper_text` keeps the paper of `emulate`. `form` has the two forms of a stream; `input`, `hexadecimal` and
+//! `receipt_input` read the input, `byte_form` has how `encode` writes either form, `refusal` has the line that refuses
 //! a receipt, `ending` the line that a job prints in place of everything else, and `status` the exit status of the program.
 //! `laws` has why the last line can stand in a picture as it is.
 #![tactic(auto)]

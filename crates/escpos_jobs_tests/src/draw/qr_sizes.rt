@@ -177,7 +177,8 @@ fn bytes_of_each_version(rt: HostRuntime) {
 fn has_text(rt: &impl Abort, alloc: Global, stream: &[u8], wanted: &str) {
     let mut source = MemoryIn::new(stream, 4096);
     let mut sink = Outgoing::new(Vec::new(alloc));
-    assert!(rt; draw(alloc, LineWidth::usual(), &mut source, &mut sink) == Status::Good);
+    let (form, width) = (Form::Hexadecimal, LineWidth::usual());
+    assert!(rt; draw(alloc, form, width, &mut source, &mut sink) == Status::Good);
     let out = sink.into_inner();
     let text = str::from_utf8(&out).expect(rt, "text");
     assert!(rt; text.contains(wanted), "{wanted}");
