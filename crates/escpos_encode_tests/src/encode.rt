@@ -3,7 +3,6 @@
 use escpos_decode::{Decoded, End, decode};
 use escpos_host::Receipt;
 use escpos_io::MemoryIn;
-use escpos_jobs::form::Form;
 use escpos_jobs::status::Status;
 use escpos_test_jobs::{Row, encode_task, performs, performs_rows, prints};
 use escpos_test_receipts::{EVERY_MEMBER, filled, read_receipt};
@@ -213,14 +212,7 @@ const REAL_TIME: [Row; 19] = [
 
 #[test]
 fn real_time_commands_in_encode(rt: HostRuntime) {
-    assert!(&rt;
-        performs_rows(
-            rt.alloc(),
-            encode_task(Form::Hexadecimal),
-            &REAL_TIME,
-            &[1, 4096]
-        )
-    );
+    assert!(&rt; performs_rows(rt.alloc(), encode_task(), &REAL_TIME, &[1, 4096]));
 }
 
 // Texts with codes that a printer leaves out on a line of 512 dots, and such as fit.
@@ -285,14 +277,7 @@ const LEFT_OUT: [Row; 10] = [
 
 #[test]
 fn codes_that_are_left_out_in_encode(rt: HostRuntime) {
-    assert!(&rt;
-        performs_rows(
-            rt.alloc(),
-            encode_task(Form::Hexadecimal),
-            &LEFT_OUT,
-            &[1, 4096]
-        )
-    );
+    assert!(&rt; performs_rows(rt.alloc(), encode_task(), &LEFT_OUT, &[1, 4096]));
 }
 
 // Texts that give no receipt, and why.
@@ -496,38 +481,17 @@ const REFUSED_TEXTS: [Row; 48] = [
 
 #[test]
 fn rows_of_encode(rt: HostRuntime) {
-    assert!(&rt;
-        performs_rows(
-            rt.alloc(),
-            encode_task(Form::Hexadecimal),
-            &ENCODED,
-            &[1, 4096]
-        )
-    );
+    assert!(&rt; performs_rows(rt.alloc(), encode_task(), &ENCODED, &[1, 4096]));
 }
 
 #[test]
 fn receipt_refusals(rt: HostRuntime) {
-    assert!(&rt;
-        performs_rows(
-            rt.alloc(),
-            encode_task(Form::Hexadecimal),
-            &REFUSED_TEXTS,
-            &[7]
-        )
-    );
+    assert!(&rt; performs_rows(rt.alloc(), encode_task(), &REFUSED_TEXTS, &[7]));
 }
 
 // Refuses a text with this line.
 fn refuses(rt: &impl Abort, alloc: Global, text: &[u8], line: &[u8]) {
-    assert!(rt;
-        prints(
-            alloc,
-            encode_task(Form::Hexadecimal),
-            text,
-            (line, Status::Refused)
-        )
-    );
+    assert!(rt; prints(alloc, encode_task(), text, (line, Status::Refused)));
 }
 
 #[test]
@@ -590,20 +554,12 @@ fn devices_of_encode_fail(rt: HostRuntime) {
         let mut source = MemoryIn::new(EVERY_MEMBER, 100);
         let wanted = (&EVERY_LINE[..count], Status::Device);
         let room = &mut room[..count];
-        assert!(&rt;
-            performs(
-                rt.alloc(),
-                Ok(encode_task(Form::Hexadecimal)),
-                &mut source,
-                room,
-                wanted
-            )
-        );
+        assert!(&rt; performs(rt.alloc(), Ok(encode_task()), &mut source, room, wanted));
     }
     let wanted = (b"".as_slice(), Status::Device);
     for from_call in [1, 2, 9] {
         let mut source = MemoryIn::failing(EVERY_MEMBER, 64, from_call);
-        let asked = Ok(encode_task(Form::Hexadecimal));
+        let asked = Ok(encode_task());
         assert!(&rt; performs(rt.alloc(), asked, &mut source, &mut room, wanted));
     }
 }

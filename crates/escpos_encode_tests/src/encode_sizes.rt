@@ -2,7 +2,6 @@
 //! refused for its own reason.
 
 use escpos_io::{MemoryIn, MemoryOut};
-use escpos_jobs::form::Form;
 use escpos_jobs::status::Status;
 use escpos_test_jobs::{NoNetwork, encode_task, prints, run_job};
 use escpos_test_receipts::{filled, joined};
@@ -16,14 +15,7 @@ type Long = (usize, [&'static str; 3], [&'static str; 3]);
 fn encodes_long(rt: &impl Abort, alloc: Global, (count, text, line): Long, status: Status) {
     let text = joined(alloc, text, count).expect(rt, "memory");
     let line = joined(alloc, line, count).expect(rt, "memory");
-    assert!(rt;
-        prints(
-            alloc,
-            encode_task(Form::Hexadecimal),
-            &text,
-            (&line, status)
-        )
-    );
+    assert!(rt; prints(alloc, encode_task(), &text, (&line, status)));
 }
 
 const UPCA: [&str; 3] = ["[{\"bars\":{\"kind\":\"upca\",\"content\":\"", "0", "\"}}]"];
@@ -160,7 +152,7 @@ fn many_entries_have_memory(rt: HostRuntime) {
 // A receipt, and blanks up to so many bytes.
 fn encodes_blanks(rt: &impl Abort, alloc: Global, length: usize, wanted: (&[u8], Status)) {
     let text = filled(alloc, b"[{\"feed\":1}]", b' ', length).expect(rt, "memory");
-    assert!(rt; prints(alloc, encode_task(Form::Hexadecimal), &text, wanted));
+    assert!(rt; prints(alloc, encode_task(), &text, wanted));
 }
 
 #[test]
@@ -258,14 +250,7 @@ fn encodes_numbers(rt: &impl Abort, alloc: Global, row: Numbered) {
     append_entry(rt, alloc, (&mut text, &mut line), row, 255);
     text.extend_from_slice(b"]").expect(rt, "memory");
     line.extend_from_slice(b"\n").expect(rt, "memory");
-    assert!(rt;
-        prints(
-            alloc,
-            encode_task(Form::Hexadecimal),
-            &text,
-            (&line, Status::Good)
-        )
-    );
+    assert!(rt; prints(alloc, encode_task(), &text, (&line, Status::Good)));
 }
 
 #[test]
@@ -316,14 +301,7 @@ const WRONG_KINDS: [&str; 33] = [
 fn values_of_the_wrong_kind_are_refused(rt: HostRuntime) {
     let wanted = (b"refused 6 BadShape 0\n".as_slice(), Status::Refused);
     for text in &WRONG_KINDS {
-        assert!(&rt;
-            prints(
-                rt.alloc(),
-                encode_task(Form::Hexadecimal),
-                text.as_bytes(),
-                wanted
-            )
-        );
+        assert!(&rt; prints(rt.alloc(), encode_task(), text.as_bytes(), wanted));
     }
 }
 
@@ -389,13 +367,7 @@ fn goes_out_at_once(rt: &impl Abort, alloc: Global, text: &[u8], line: &[u8]) {
     let mut source = MemoryIn::new(text, 65_536);
     let mut room = [0; 8192];
     let mut sink = MemoryOut::failing(&mut room, 2);
-    let status = run_job(
-        &NoNetwork,
-        alloc,
-        Ok(encode_task(Form::Hexadecimal)),
-        &mut source,
-        &mut sink,
-    );
+    let status = run_job(&NoNetwork, alloc, Ok(encode_task()), &mut source, &mut sink);
     assert!(rt; status == Status::Good);
     assert!(rt; sink.written() == line);
 }

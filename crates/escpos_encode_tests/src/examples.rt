@@ -4,7 +4,6 @@
 //! compares the files with what the built program prints.
 
 use escpos_io::MemoryIn;
-use escpos_jobs::form::Form;
 use escpos_jobs::status::Status;
 use escpos_test_jobs::{check_task, encode_task, performs, render_task};
 
@@ -458,8 +457,8 @@ fn receipts_are_listed_and_printed(rt: HostRuntime) {
         TAX_RECEIPT,
     ] {
         for (task, output) in [
-            (check_task(Form::Hexadecimal), receipt.listing),
-            (render_task(Form::Hexadecimal), receipt.paper),
+            (check_task(), receipt.listing),
+            (render_task(), receipt.paper),
         ] {
             let mut source = MemoryIn::new(receipt.stream.as_bytes(), 64);
             let wanted = (output.as_bytes(), Status::Good);
@@ -476,7 +475,7 @@ fn receipts_in_json_give_their_streams(rt: HostRuntime) {
     ] {
         let mut source = MemoryIn::new(text.as_bytes(), 64);
         let wanted = (receipt.stream.as_bytes(), Status::Good);
-        let task = Ok(encode_task(Form::Hexadecimal));
+        let task = Ok(encode_task());
         assert!(&rt; performs(rt.alloc(), task, &mut source, &mut [0; 1024], wanted));
     }
 }

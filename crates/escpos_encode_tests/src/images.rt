@@ -2,7 +2,6 @@
 
 use escpos_command::LineWidth;
 use escpos_io::{MemoryIn, Outgoing};
-use escpos_jobs::form::Form;
 use escpos_jobs::perform::perform;
 use escpos_jobs::status::Status;
 use escpos_jobs::task::Task;
@@ -105,7 +104,7 @@ fn entries_that_encode_takes(rt: HostRuntime) {
     assert!(&rt;
         prints(
             rt.alloc(),
-            encode_task(Form::Hexadecimal),
+            encode_task(),
             receipt.as_slice(),
             (b"1d76300001000200f00f\n", Status::Good)
         )

@@ -5,7 +5,7 @@ use escpos_jobs::form::Form;
 use escpos_jobs::status::Status;
 use escpos_jobs::task::Task;
 use escpos_receipt::ReceiptOptions;
-use escpos_test_jobs::{Row, encode_task, performs_rows};
+use escpos_test_jobs::{Row, performs_rows, raw_encode_task};
 use std::process::Abort;
 
 fn narrow(rt: &impl Abort) -> ReceiptOptions {
@@ -206,5 +206,5 @@ const USUAL: [Row; 1] = [(
 
 #[test]
 fn layouts_in_usual_lines(rt: HostRuntime) {
-    assert!(&rt; performs_rows(rt.alloc(), encode_task(Form::Raw), &USUAL, &[4096]));
+    assert!(&rt; performs_rows(rt.alloc(), raw_encode_task(), &USUAL, &[4096]));
 }

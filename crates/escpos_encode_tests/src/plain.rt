@@ -7,7 +7,8 @@ use escpos_jobs::status::Status;
 use escpos_jobs::task::Task;
 use escpos_receipt::ReceiptOptions;
 use escpos_test_jobs::{
-    NoNetwork, Row, encode_task, performs_rows, prints, render_text_task, run_job,
+    NoNetwork, Row, performs_rows, prints, raw_encode_task, raw_render_text_task, render_text_task,
+    run_job,
 };
 use escpos_test_receipts::joined;
 use escpos_text::Replacement;
@@ -73,14 +74,7 @@ const PLAIN: [Row; 9] = [
 
 #[test]
 fn rows_of_plain_text(rt: HostRuntime) {
-    assert!(&rt;
-        performs_rows(
-            rt.alloc(),
-            render_text_task(Form::Hexadecimal),
-            &PLAIN,
-            &[1, 4096]
-        )
-    );
+    assert!(&rt; performs_rows(rt.alloc(), render_text_task(), &PLAIN, &[1, 4096]));
 }
 
 #[test]
@@ -176,7 +170,7 @@ fn reads_as(rt: &impl Abort, alloc: Global, set: u8, characters: &str) {
     assert!(rt;
         prints(
             alloc,
-            render_text_task(Form::Raw),
+            raw_render_text_task(),
             &stream,
             (&paper, Status::Good)
         )
@@ -217,7 +211,7 @@ fn reads_back(rt: &impl Abort, alloc: Global, line: &str) {
     let ended = run_job(
         &NoNetwork,
         alloc,
-        Ok(encode_task(Form::Raw)),
+        Ok(raw_encode_task()),
         &mut source,
         &mut stream,
     );
@@ -226,7 +220,7 @@ fn reads_back(rt: &impl Abort, alloc: Global, line: &str) {
     assert!(rt;
         prints(
             alloc,
-            render_text_task(Form::Raw),
+            raw_render_text_task(),
             &stream.into_inner(),
             (&paper, Status::Good)
         )

@@ -1,6 +1,5 @@
 //! QR codes in receipts, through `encode`.
 
-use escpos_jobs::form::Form;
 use escpos_jobs::status::Status;
 use escpos_test_jobs::{Row, encode_task, performs_rows, prints};
 use escpos_test_receipts::joined;
@@ -51,14 +50,7 @@ const ENCODED: [Row; 7] = [
 
 #[test]
 fn qr_codes_in_encode(rt: HostRuntime) {
-    assert!(&rt;
-        performs_rows(
-            rt.alloc(),
-            encode_task(Form::Hexadecimal),
-            &ENCODED,
-            &[1, 4096]
-        )
-    );
+    assert!(&rt; performs_rows(rt.alloc(), encode_task(), &ENCODED, &[1, 4096]));
 }
 
 // Texts that give no receipt, and why.
@@ -232,14 +224,7 @@ const REFUSED_TEXTS: [Row; 31] = [
 
 #[test]
 fn qr_codes_that_are_refused(rt: HostRuntime) {
-    assert!(&rt;
-        performs_rows(
-            rt.alloc(),
-            encode_task(Form::Hexadecimal),
-            &REFUSED_TEXTS,
-            &[7]
-        )
-    );
+    assert!(&rt; performs_rows(rt.alloc(), encode_task(), &REFUSED_TEXTS, &[7]));
 }
 
 // How often a part comes in a content, and what the text gives.
@@ -299,13 +284,6 @@ fn the_longest_contents_in_encode(rt: HostRuntime) {
         ];
         let text = joined(rt.alloc(), text, count).expect(&rt, "memory");
         let line = joined(rt.alloc(), line, count).expect(&rt, "memory");
-        assert!(&rt;
-            prints(
-                rt.alloc(),
-                encode_task(Form::Hexadecimal),
-                &text,
-                (&line, status)
-            )
-        );
+        assert!(&rt; prints(rt.alloc(), encode_task(), &text, (&line, status)));
     }
 }

@@ -1,6 +1,5 @@
 //! The rows of `check`, and long listings.
 
-use escpos_jobs::form::Form;
 use escpos_jobs::status::Status;
 use escpos_test_jobs::{Row, check_task, performs_rows, prints};
 use escpos_test_receipts::{filled, joined};
@@ -67,14 +66,7 @@ const CHECKED: [Row; 18] = [
 
 #[test]
 fn rows_of_check(rt: HostRuntime) {
-    assert!(&rt;
-        performs_rows(
-            rt.alloc(),
-            check_task(Form::Hexadecimal),
-            &CHECKED,
-            &[1, 5, 4096]
-        )
-    );
+    assert!(&rt; performs_rows(rt.alloc(), check_task(), &CHECKED, &[1, 5, 4096]));
 }
 
 // A real-time command in the data of another is noted, with the place of the command that holds it. A request for a status is one itself.
@@ -119,14 +111,7 @@ const CHECKED_REAL_TIME: [Row; 8] = [
 
 #[test]
 fn real_time_noted(rt: HostRuntime) {
-    assert!(&rt;
-        performs_rows(
-            rt.alloc(),
-            check_task(Form::Hexadecimal),
-            &CHECKED_REAL_TIME,
-            &[1, 5, 4096]
-        )
-    );
+    assert!(&rt; performs_rows(rt.alloc(), check_task(), &CHECKED_REAL_TIME, &[1, 5, 4096]));
 }
 
 const CHECKED_CONTENTS: [Row; 27] = [
@@ -242,14 +227,7 @@ const CHECKED_CONTENTS: [Row; 27] = [
 
 #[test]
 fn contents_in_check(rt: HostRuntime) {
-    assert!(&rt;
-        performs_rows(
-            rt.alloc(),
-            check_task(Form::Hexadecimal),
-            &CHECKED_CONTENTS,
-            &[1, 4096]
-        )
-    );
+    assert!(&rt; performs_rows(rt.alloc(), check_task(), &CHECKED_CONTENTS, &[1, 4096]));
 }
 
 // What is new since the second profile.
@@ -332,14 +310,7 @@ const CHECKED_STYLES: [Row; 25] = [
 
 #[test]
 fn styles_in_check(rt: HostRuntime) {
-    assert!(&rt;
-        performs_rows(
-            rt.alloc(),
-            check_task(Form::Hexadecimal),
-            &CHECKED_STYLES,
-            &[1, 4096]
-        )
-    );
+    assert!(&rt; performs_rows(rt.alloc(), check_task(), &CHECKED_STYLES, &[1, 4096]));
 }
 
 // Row ean13's first stream.
@@ -351,14 +322,7 @@ fn unfinished(rt: HostRuntime) {
     for length in 1..16 {
         let line = format!(in rt.alloc(); "end {length} pending {length}\n").expect(&rt, "memory");
         let wanted = (line.as_bytes(), Status::Refused);
-        assert!(&rt;
-            prints(
-                rt.alloc(),
-                check_task(Form::Hexadecimal),
-                &EAN13[..2 * length],
-                wanted
-            )
-        );
+        assert!(&rt; prints(rt.alloc(), check_task(), &EAN13[..2 * length], wanted));
     }
 }
 
@@ -368,14 +332,7 @@ fn a_long_barcode(rt: HostRuntime) {
     let input = joined(rt.alloc(), ["1D6B45FF", "39", ""], 255).expect(&rt, "memory");
     let parts = ["0 bars 45 ", "39", "\nend 259 pending 0\n"];
     let listing = joined(rt.alloc(), parts, 255).expect(&rt, "memory");
-    assert!(&rt;
-        prints(
-            rt.alloc(),
-            check_task(Form::Hexadecimal),
-            &input,
-            (&listing, Status::Good)
-        )
-    );
+    assert!(&rt; prints(rt.alloc(), check_task(), &input, (&listing, Status::Good)));
 }
 
 // A raster of 128 bytes a row: the digits of its head, its rows, how many bytes of dots it has, and what is listed of it, whole
@@ -400,23 +357,9 @@ const OF_2047_ROWS: Wide = (
 fn lists_wide(rt: &impl Abort, alloc: Global, (head, count, whole, half): Wide) {
     let length = count.saturating_mul(2).saturating_add(16);
     let mut input = filled(alloc, head, b'a', length).expect(rt, "memory");
-    assert!(rt;
-        prints(
-            alloc,
-            check_task(Form::Hexadecimal),
-            &input,
-            (whole, Status::Good)
-        )
-    );
+    assert!(rt; prints(alloc, check_task(), &input, (whole, Status::Good)));
     input.truncate(length.saturating_sub(2));
-    assert!(rt;
-        prints(
-            alloc,
-            check_task(Form::Hexadecimal),
-            &input,
-            (half, Status::Refused)
-        )
-    );
+    assert!(rt; prints(alloc, check_task(), &input, (half, Status::Refused)));
 }
 
 #[test]
@@ -450,12 +393,5 @@ fn many_lines(rt: &impl Abort, alloc: Global, count: u32) -> Vec<u8> {
 fn a_listing_of_many_commands(rt: HostRuntime) {
     let listing = many_lines(&rt, rt.alloc(), 100_000);
     let text = filled(rt.alloc(), b"", b'A', 200_000).expect(&rt, "memory");
-    assert!(&rt;
-        prints(
-            rt.alloc(),
-            check_task(Form::Hexadecimal),
-            &text,
-            (&listing, Status::Good)
-        )
-    );
+    assert!(&rt; prints(rt.alloc(), check_task(), &text, (&listing, Status::Good)));
 }

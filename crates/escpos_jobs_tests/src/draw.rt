@@ -1,8 +1,7 @@
 //! The rows of `draw`: every number of these documents is worked out from the rules of docs/PROFILE.md, not read off.
 
-use escpos_jobs::form::Form;
 use escpos_jobs::status::Status;
-use escpos_test_jobs::{draw_task, prints};
+use escpos_test_jobs::{draw_task, prints, raw_draw_task};
 use std::alloc::Global;
 use std::process::Abort;
 
@@ -314,7 +313,7 @@ fn is_drawn(rt: &impl Abort, alloc: Global, (input, paper, height, body): Drawn)
     assert!(rt;
         prints(
             alloc,
-            draw_task(Form::Hexadecimal),
+            draw_task(),
             input.as_bytes(),
             (wanted.as_slice(), status)
         )
@@ -338,7 +337,7 @@ fn draws_bytes_and_refuses_input(rt: HostRuntime) {
     assert!(&rt;
         prints(
             alloc,
-            draw_task(Form::Raw),
+            raw_draw_task(),
             b"A\n",
             (wanted.as_slice(), Status::Good)
         )
@@ -346,7 +345,7 @@ fn draws_bytes_and_refuses_input(rt: HostRuntime) {
     assert!(&rt;
         prints(
             alloc,
-            draw_task(Form::Hexadecimal),
+            draw_task(),
             b"4",
             (b"refused hex\n", Status::Refused)
         )

@@ -3,11 +3,12 @@
 use escpos_decode::Decoder;
 use escpos_host::JsonFault;
 use escpos_io::{ByteIn, MemoryIn, MemoryOut};
-use escpos_jobs::form::Form;
 use escpos_jobs::status::Status;
 use escpos_jobs::task::{NoTask, Task};
 use escpos_jobs::usage::{HELP, USAGE, VERSION, say_help};
-use escpos_test_jobs::{check_task, encode_task, performs, prints, render_task};
+use escpos_test_jobs::{
+    check_task, encode_task, performs, prints, raw_check_task, raw_encode_task, render_task,
+};
 use escpos_test_receipts::{faults, joined, read_receipt};
 use std::alloc::Global;
 use std::process::Abort;
@@ -16,27 +17,19 @@ use std::process::Abort;
 fn each_thing_asked_for(rt: HostRuntime) {
     let rows: [(Result<Task, NoTask>, &[u8], Status); 8] = [
         (
-            Ok(check_task(Form::Hexadecimal)),
+            Ok(check_task()),
             b"0 char 41\n1 lf\nend 2 pending 0\n",
             Status::Good,
         ),
+        (Ok(render_task()), b"row left A\nfeed 1\n", Status::Good),
+        (Ok(encode_task()), b"refused 5 NotJson\n", Status::Refused),
         (
-            Ok(render_task(Form::Hexadecimal)),
-            b"row left A\nfeed 1\n",
-            Status::Good,
-        ),
-        (
-            Ok(encode_task(Form::Hexadecimal)),
-            b"refused 5 NotJson\n",
-            Status::Refused,
-        ),
-        (
-            Ok(check_task(Form::Raw)),
+            Ok(raw_check_task()),
             b"0 char 34\n1 char 31\n2 char 20\n3 char 30\n4 char 41\nend 5 pending 0\n",
             Status::Good,
         ),
         (
-            Ok(encode_task(Form::Raw)),
+            Ok(raw_encode_task()),
             b"refused 5 NotJson\n",
             Status::Refused,
         ),
@@ -92,30 +85,12 @@ fn is_shown(rt: &impl Abort, alloc: Global, (name, input): (&str, &str), task: T
 fn help_shows_what_the_jobs_write(rt: HostRuntime) {
     let stream = "1B 40 48 69 0A 1D 56 00";
     let listing = "0 init\n2 char 48\n3 char 69\n4 lf\n5 cut 00\nend 8 pending 0\n";
-    is_shown(
-        &rt,
-        rt.alloc(),
-        ("check", stream),
-        check_task(Form::Hexadecimal),
-        listing,
-    );
+    is_shown(&rt, rt.alloc(), ("check", stream), check_task(), listing);
     let paper = "row left Hi\nfeed 1\ncut full\n";
-    is_shown(
-        &rt,
-        rt.alloc(),
-        ("render", stream),
-        render_task(Form::Hexadecimal),
-        paper,
-    );
+    is_shown(&rt, rt.alloc(), ("render", stream), render_task(), paper);
     let receipt = "[{\"line\":\"Hi\"},{\"cut\":\"full\"}]";
     let shown = ("encode", receipt);
-    is_shown(
-        &rt,
-        rt.alloc(),
-        shown,
-        encode_task(Form::Hexadecimal),
-        "48690a1d5600\n",
-    );
+    is_shown(&rt, rt.alloc(), shown, encode_task(), "48690a1d5600\n");
 }
 
 #[test]

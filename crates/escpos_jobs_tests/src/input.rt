@@ -1,7 +1,6 @@
 //! The input of a job: hexadecimal digits, what is no digit, the limit of its length, and a source or a sink that fails.
 
 use escpos_io::MemoryIn;
-use escpos_jobs::form::Form;
 use escpos_jobs::hexadecimal::{NotHexadecimal, bytes_of};
 use escpos_jobs::status::Status;
 use escpos_jobs::task::Task;
@@ -25,7 +24,7 @@ fn bad_input_at_each_edge(rt: HostRuntime) {
             Status::Good,
         ),
     ];
-    assert!(&rt; performs_rows(rt.alloc(), check_task(Form::Hexadecimal), &rows, &[3]));
+    assert!(&rt; performs_rows(rt.alloc(), check_task(), &rows, &[3]));
 }
 
 // The longest input: the digits of a line feed, and then blanks.
@@ -33,14 +32,14 @@ fn bad_input_at_each_edge(rt: HostRuntime) {
 fn the_limit_of_the_input(rt: HostRuntime) {
     let text = filled(rt.alloc(), b"0A", b' ', 16_777_216).expect(&rt, "memory");
     let wanted = (b"0 lf\nend 1 pending 0\n".as_slice(), Status::Good);
-    assert!(&rt; prints(rt.alloc(), check_task(Form::Hexadecimal), &text, wanted));
+    assert!(&rt; prints(rt.alloc(), check_task(), &text, wanted));
 }
 
 #[test]
 fn a_byte_past_the_limit(rt: HostRuntime) {
     let text = filled(rt.alloc(), b"0A", b' ', 16_777_217).expect(&rt, "memory");
     let wanted = (b"refused input\n".as_slice(), Status::Refused);
-    assert!(&rt; prints(rt.alloc(), check_task(Form::Hexadecimal), &text, wanted));
+    assert!(&rt; prints(rt.alloc(), check_task(), &text, wanted));
 }
 
 // A fault far into a stream is found at its place, here after 500,000 bytes that print nothing.
@@ -48,7 +47,7 @@ fn a_byte_past_the_limit(rt: HostRuntime) {
 fn a_fault_far_into_a_stream(rt: HostRuntime) {
     let text = joined(rt.alloc(), ["", "0D", "06"], 500_000).expect(&rt, "memory");
     let wanted = (b"fault 500000 1 UnknownByte\n".as_slice(), Status::Refused);
-    assert!(&rt; prints(rt.alloc(), render_task(Form::Hexadecimal), &text, wanted));
+    assert!(&rt; prints(rt.alloc(), render_task(), &text, wanted));
 }
 
 // A digit without another is refused however far it stands, and so is a byte that is no digit.
@@ -56,7 +55,7 @@ fn a_fault_far_into_a_stream(rt: HostRuntime) {
 fn a_lone_digit_far_into_the_input(rt: HostRuntime) {
     let text = filled(rt.alloc(), b"0", b'A', 10_000_001).expect(&rt, "memory");
     let wanted = (b"refused hex\n".as_slice(), Status::Refused);
-    assert!(&rt; prints(rt.alloc(), check_task(Form::Hexadecimal), &text, wanted));
+    assert!(&rt; prints(rt.alloc(), check_task(), &text, wanted));
 }
 
 #[test]
@@ -64,17 +63,14 @@ fn a_bad_digit_far_into_the_input(rt: HostRuntime) {
     let mut text = filled(rt.alloc(), b"", b'A', 10_000_000).expect(&rt, "memory");
     text.extend_from_slice(b"g0").expect(&rt, "memory");
     let wanted = (b"refused hex\n".as_slice(), Status::Refused);
-    assert!(&rt; prints(rt.alloc(), check_task(Form::Hexadecimal), &text, wanted));
+    assert!(&rt; prints(rt.alloc(), check_task(), &text, wanted));
 }
 
 #[test]
 fn a_source_fails(rt: HostRuntime) {
     let wanted = (b"".as_slice(), Status::Device);
     for from_call in [1, 2, 4] {
-        for task in [
-            check_task(Form::Hexadecimal),
-            render_task(Form::Hexadecimal),
-        ] {
+        for task in [check_task(), render_task()] {
             let mut source = MemoryIn::failing(b"0A 0A", 2, from_call);
             assert!(&rt; performs(rt.alloc(), Ok(task), &mut source, &mut [0; 64], wanted));
         }
@@ -91,19 +87,11 @@ fn a_sink_fails_at_each_place(rt: HostRuntime) {
         let mut source = MemoryIn::new(b"1B 40 48 69 0A 1D 56 00", 100);
         let room = &mut room[..count];
         let wanted = (&FIVE_LINES[..count], Status::Device);
-        assert!(&rt;
-            performs(
-                rt.alloc(),
-                Ok(check_task(Form::Hexadecimal)),
-                &mut source,
-                room,
-                wanted
-            )
-        );
+        assert!(&rt; performs(rt.alloc(), Ok(check_task()), &mut source, room, wanted));
     }
     let rows: [(Task, &[u8], &[u8]); 2] = [
-        (check_task(Form::Hexadecimal), b"1B 4", b"refus"),
-        (render_task(Form::Hexadecimal), b"41 0A", b"row l"),
+        (check_task(), b"1B 4", b"refus"),
+        (render_task(), b"41 0A", b"row l"),
     ];
     for (task, input, output) in rows {
         let mut source = MemoryIn::new(input, 100);

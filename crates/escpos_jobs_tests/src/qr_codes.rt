@@ -1,7 +1,6 @@
 //! QR codes through `check` and `render`.
 
 use escpos_io::MemoryIn;
-use escpos_jobs::form::Form;
 use escpos_jobs::status::Status;
 use escpos_test_jobs::{Row, check_task, performs, performs_rows, prints, render_task};
 use escpos_test_receipts::joined;
@@ -162,14 +161,7 @@ const CHECKED: [Row; 37] = [
 
 #[test]
 fn qr_codes_in_check(rt: HostRuntime) {
-    assert!(&rt;
-        performs_rows(
-            rt.alloc(),
-            check_task(Form::Hexadecimal),
-            &CHECKED,
-            &[1, 4096]
-        )
-    );
+    assert!(&rt; performs_rows(rt.alloc(), check_task(), &CHECKED, &[1, 4096]));
 }
 
 // Streams, and the paper that they print.
@@ -261,14 +253,7 @@ const RENDERED: [Row; 14] = [
 
 #[test]
 fn qr_codes_in_render(rt: HostRuntime) {
-    assert!(&rt;
-        performs_rows(
-            rt.alloc(),
-            render_task(Form::Hexadecimal),
-            &RENDERED,
-            &[1, 4096]
-        )
-    );
+    assert!(&rt; performs_rows(rt.alloc(), render_task(), &RENDERED, &[1, 4096]));
 }
 
 // What comes before the longest data, that data in part, and what comes after it.
@@ -281,15 +266,15 @@ fn the_longest_store_in_check(rt: HostRuntime) {
     let parts = ["0 qrstore ", "1b", "\nend 7097 pending 0\n"];
     let listing = joined(rt.alloc(), parts, 7089).expect(&rt, "memory");
     let wanted = (listing.as_slice(), Status::Good);
-    assert!(&rt; prints(rt.alloc(), check_task(Form::Hexadecimal), &whole, wanted));
+    assert!(&rt; prints(rt.alloc(), check_task(), &whole, wanted));
     let short = joined(rt.alloc(), LONGEST, 7088).expect(&rt, "memory");
     let wanted = (b"end 7096 pending 7096\n".as_slice(), Status::Refused);
-    assert!(&rt; prints(rt.alloc(), check_task(Form::Hexadecimal), &short, wanted));
+    assert!(&rt; prints(rt.alloc(), check_task(), &short, wanted));
     let longer = joined(rt.alloc(), ["1D286BB41B315030", "1b", "0A"], 7089).expect(&rt, "memory");
     let parts = ["0 qrstore ", "1b", "\n7097 lf\nend 7098 pending 0\n"];
     let listing = joined(rt.alloc(), parts, 7089).expect(&rt, "memory");
     let wanted = (listing.as_slice(), Status::Good);
-    assert!(&rt; prints(rt.alloc(), check_task(Form::Hexadecimal), &longer, wanted));
+    assert!(&rt; prints(rt.alloc(), check_task(), &longer, wanted));
 }
 
 // Wherever the sink is full, what went out is the beginning of the listing.
@@ -303,15 +288,7 @@ fn a_long_store_cut_short(rt: HostRuntime) {
         let part = listing.get(..count).expect(&rt, "listing");
         let wanted = (part, Status::Device);
         let room = &mut room[..count];
-        assert!(&rt;
-            performs(
-                rt.alloc(),
-                Ok(check_task(Form::Hexadecimal)),
-                &mut source,
-                room,
-                wanted
-            )
-        );
+        assert!(&rt; performs(rt.alloc(), Ok(check_task()), &mut source, room, wanted));
     }
 }
 
@@ -327,7 +304,7 @@ fn the_longest_content_in_render(rt: HostRuntime) {
         paper.extend_from_slice(&line).expect(&rt, "memory");
     }
     let wanted = (paper.as_slice(), Status::Good);
-    assert!(&rt; prints(rt.alloc(), render_task(Form::Hexadecimal), &stream, wanted));
+    assert!(&rt; prints(rt.alloc(), render_task(), &stream, wanted));
 }
 
 // Stores of 256 bytes, 1,000 of them, and a print of the last.
@@ -343,5 +320,5 @@ fn many_stores_in_render(rt: HostRuntime) {
         .expect(&rt, "memory");
     let paper = joined(rt.alloc(), ["qr left 2 3 L ", "A", "\n"], 256).expect(&rt, "memory");
     let wanted = (paper.as_slice(), Status::Good);
-    assert!(&rt; prints(rt.alloc(), render_task(Form::Hexadecimal), &stream, wanted));
+    assert!(&rt; prints(rt.alloc(), render_task(), &stream, wanted));
 }

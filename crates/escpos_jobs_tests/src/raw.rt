@@ -1,10 +1,9 @@
 //! Bytes as they are: the worked rows of `check --raw`, `render --raw` and `encode --raw`.
 
 use escpos_io::MemoryIn;
-use escpos_jobs::form::Form;
 use escpos_jobs::status::Status;
 use escpos_test_jobs::{
-    Row, check_task, encode_task, performs, performs_rows, prints, render_task,
+    Row, performs, performs_rows, prints, raw_check_task, raw_encode_task, raw_render_task,
 };
 use escpos_test_receipts::filled;
 
@@ -42,7 +41,7 @@ const LISTED: [Row; 6] = [
 
 #[test]
 fn raw_listings(rt: HostRuntime) {
-    assert!(&rt; performs_rows(rt.alloc(), check_task(Form::Raw), &LISTED, &[1, 4096]));
+    assert!(&rt; performs_rows(rt.alloc(), raw_check_task(), &LISTED, &[1, 4096]));
 }
 
 // Streams, and the paper that they print.
@@ -65,7 +64,7 @@ const PRINTED: [Row; 3] = [
 
 #[test]
 fn raw_papers(rt: HostRuntime) {
-    assert!(&rt; performs_rows(rt.alloc(), render_task(Form::Raw), &PRINTED, &[1, 4096]));
+    assert!(&rt; performs_rows(rt.alloc(), raw_render_task(), &PRINTED, &[1, 4096]));
 }
 
 // Receipts, and the bytes of their commands: no line end follows them.
@@ -90,7 +89,7 @@ const ENCODED: [Row; 4] = [
 
 #[test]
 fn raw_receipts(rt: HostRuntime) {
-    assert!(&rt; performs_rows(rt.alloc(), encode_task(Form::Raw), &ENCODED, &[1, 4096]));
+    assert!(&rt; performs_rows(rt.alloc(), raw_encode_task(), &ENCODED, &[1, 4096]));
 }
 
 // The longest input: its first byte is refused, and so the others aren't read as commands. One more is too long.
@@ -98,30 +97,26 @@ fn raw_receipts(rt: HostRuntime) {
 fn raw_limit(rt: HostRuntime) {
     let bytes = filled(rt.alloc(), b"\x06", b'\r', 16_777_216).expect(&rt, "memory");
     let wanted = (b"fault 0 1 UnknownByte\n".as_slice(), Status::Refused);
-    assert!(&rt; prints(rt.alloc(), check_task(Form::Raw), &bytes, wanted));
+    assert!(&rt; prints(rt.alloc(), raw_check_task(), &bytes, wanted));
 }
 
 #[test]
 fn raw_past_the_limit(rt: HostRuntime) {
     let bytes = filled(rt.alloc(), b"\x06", b'\r', 16_777_217).expect(&rt, "memory");
     let wanted = (b"refused input\n".as_slice(), Status::Refused);
-    assert!(&rt; prints(rt.alloc(), render_task(Form::Raw), &bytes, wanted));
+    assert!(&rt; prints(rt.alloc(), raw_render_task(), &bytes, wanted));
 }
 
 // A source fails, and nothing is put; a sink fails, and has the beginning.
 #[test]
 fn raw_failures(rt: HostRuntime) {
-    for task in [
-        check_task(Form::Raw),
-        render_task(Form::Raw),
-        encode_task(Form::Raw),
-    ] {
+    for task in [raw_check_task(), raw_render_task(), raw_encode_task()] {
         let mut source = MemoryIn::failing(b"[{\"line\":\"Hi\"}]", 7, 2);
         let wanted = (b"".as_slice(), Status::Device);
         assert!(&rt; performs(rt.alloc(), Ok(task), &mut source, &mut [0; 64], wanted));
     }
     let mut source = MemoryIn::new(b"[{\"line\":\"Hi\"}]", 7);
     let wanted = (b"Hi".as_slice(), Status::Device);
-    let asked = Ok(encode_task(Form::Raw));
+    let asked = Ok(raw_encode_task());
     assert!(&rt; performs(rt.alloc(), asked, &mut source, &mut [0; 2], wanted));
 }

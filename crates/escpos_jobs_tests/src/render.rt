@@ -1,6 +1,5 @@
 //! The rows of `render`: lines, styles, barcodes, rasters and feeds as they lie on paper.
 
-use escpos_jobs::form::Form;
 use escpos_jobs::status::Status;
 use escpos_test_jobs::{Row, performs_rows, prints, render_task};
 use escpos_test_receipts::filled;
@@ -54,14 +53,7 @@ const RENDERED: [Row; 11] = [
 
 #[test]
 fn rows_of_render(rt: HostRuntime) {
-    assert!(&rt;
-        performs_rows(
-            rt.alloc(),
-            render_task(Form::Hexadecimal),
-            &RENDERED,
-            &[1, 4096]
-        )
-    );
+    assert!(&rt; performs_rows(rt.alloc(), render_task(), &RENDERED, &[1, 4096]));
 }
 
 const RENDERED_CONTENTS: [Row; 23] = [
@@ -199,14 +191,7 @@ const RENDERED_CONTENTS: [Row; 23] = [
 
 #[test]
 fn contents_in_render(rt: HostRuntime) {
-    assert!(&rt;
-        performs_rows(
-            rt.alloc(),
-            render_task(Form::Hexadecimal),
-            &RENDERED_CONTENTS,
-            &[4096]
-        )
-    );
+    assert!(&rt; performs_rows(rt.alloc(), render_task(), &RENDERED_CONTENTS, &[4096]));
 }
 
 // What is new since the second profile.
@@ -358,14 +343,7 @@ const RENDERED_STYLES: [Row; 25] = [
 
 #[test]
 fn styles_in_render(rt: HostRuntime) {
-    assert!(&rt;
-        performs_rows(
-            rt.alloc(),
-            render_task(Form::Hexadecimal),
-            &RENDERED_STYLES,
-            &[1, 4096]
-        )
-    );
+    assert!(&rt; performs_rows(rt.alloc(), render_task(), &RENDERED_STYLES, &[1, 4096]));
 }
 
 // A raster of 128 bytes a row, with so many bytes of dots, through `render`.
@@ -376,14 +354,7 @@ fn renders_wide(rt: &impl Abort, alloc: Global, head: &[u8], count: usize, item:
         rt, "memory",
     );
     line.extend_from_slice(b"\n").expect(rt, "memory");
-    assert!(rt;
-        prints(
-            alloc,
-            render_task(Form::Hexadecimal),
-            &input,
-            (&line, Status::Good)
-        )
-    );
+    assert!(rt; prints(alloc, render_task(), &input, (&line, Status::Good)));
 }
 
 #[test]

@@ -4,7 +4,7 @@ use escpos_command::LineWidth;
 use escpos_jobs::form::Form;
 use escpos_jobs::status::Status;
 use escpos_jobs::task::Task;
-use escpos_test_jobs::{Row, performs_rows, render_task};
+use escpos_test_jobs::{Row, performs_rows, raw_render_task};
 use std::process::Abort;
 
 fn wide(rt: &impl Abort, dots: u16) -> LineWidth {
@@ -44,5 +44,5 @@ fn papers_of_widths(rt: HostRuntime) {
         width: wide,
     };
     assert!(&rt; performs_rows(rt.alloc(), task, &WIDE, &[1, 4096]));
-    assert!(&rt; performs_rows(rt.alloc(), render_task(Form::Raw), &USUAL, &[4096]));
+    assert!(&rt; performs_rows(rt.alloc(), raw_render_task(), &USUAL, &[4096]));
 }

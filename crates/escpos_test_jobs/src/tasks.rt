@@ -1,43 +1,82 @@
-//! What the program is asked for where nothing but the form is chosen: lines of the usual width, and the usual options.
+//! What the program is asked for by the name of a job alone, and by `--raw` after it: lines of the usual width, and the usual options.
 
 use escpos_command::LineWidth;
 use escpos_jobs::form::Form;
 use escpos_jobs::task::Task;
 use escpos_receipt::ReceiptOptions;
 
-/// `check`, of a stream in this form.
-pub fn check_task(form: Form) -> Task {
-    Task::Check { form }
+/// `check`.
+pub fn check_task() -> Task {
+    Task::Check {
+        form: Form::Hexadecimal,
+    }
 }
 
-/// `render`, of such a stream.
-pub fn render_task(form: Form) -> Task {
+/// `check --raw`.
+pub fn raw_check_task() -> Task {
+    Task::Check { form: Form::Raw }
+}
+
+/// `render`.
+pub fn render_task() -> Task {
     Task::Render {
-        form,
+        form: Form::Hexadecimal,
         width: LineWidth::usual(),
     }
 }
 
-/// `render --text`, of such a stream.
-pub fn render_text_task(form: Form) -> Task {
+/// `render --raw`.
+pub fn raw_render_task() -> Task {
+    Task::Render {
+        form: Form::Raw,
+        width: LineWidth::usual(),
+    }
+}
+
+/// `render --text`.
+pub fn render_text_task() -> Task {
     Task::RenderText {
-        form,
+        form: Form::Hexadecimal,
         width: LineWidth::usual(),
     }
 }
 
-/// `draw`, of such a stream.
-pub fn draw_task(form: Form) -> Task {
+/// `render --text --raw`.
+pub fn raw_render_text_task() -> Task {
+    Task::RenderText {
+        form: Form::Raw,
+        width: LineWidth::usual(),
+    }
+}
+
+/// `draw`.
+pub fn draw_task() -> Task {
     Task::Draw {
-        form,
+        form: Form::Hexadecimal,
         width: LineWidth::usual(),
     }
 }
 
-/// `encode`, as such a stream.
-pub fn encode_task(form: Form) -> Task {
+/// `draw --raw`.
+pub fn raw_draw_task() -> Task {
+    Task::Draw {
+        form: Form::Raw,
+        width: LineWidth::usual(),
+    }
+}
+
+/// `encode`.
+pub fn encode_task() -> Task {
     Task::Encode {
-        form,
+        form: Form::Hexadecimal,
+        options: ReceiptOptions::usual(),
+    }
+}
+
+/// `encode --raw`.
+pub fn raw_encode_task() -> Task {
+    Task::Encode {
+        form: Form::Raw,
         options: ReceiptOptions::usual(),
     }
 }

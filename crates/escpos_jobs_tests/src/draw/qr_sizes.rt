@@ -113,14 +113,7 @@ fn is_boxed(rt: &impl Abort, alloc: Global, (level, character, count, side): Lar
     );
     let body = str::from_utf8(&body).expect(rt, "text");
     let wanted = document(rt, alloc, &height, &height, body);
-    assert!(rt;
-        prints(
-            alloc,
-            draw_task(Form::Hexadecimal),
-            &stream,
-            (&wanted, Status::Good)
-        )
-    );
+    assert!(rt; prints(alloc, draw_task(), &stream, (&wanted, Status::Good)));
 }
 
 // One character more makes the next version, which has four modules more, or is held by none.

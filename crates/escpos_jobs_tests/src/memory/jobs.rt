@@ -15,7 +15,8 @@ use escpos_jobs::task::Task;
 use escpos_link::Event;
 use escpos_receipt::ReceiptOptions;
 use escpos_test_jobs::{
-    NoNetwork, check_task, draw_task, encode_task, is_whole, render_task, render_text_task, run_job,
+    NoNetwork, check_task, draw_task, encode_task, is_whole, raw_check_task, raw_encode_task,
+    raw_render_task, render_task, render_text_task, run_job,
 };
 use escpos_test_receipts::{S, are_line};
 use std::alloc::Global;
@@ -173,115 +174,62 @@ fn puts_at_last(rt: &impl Abort, alloc: Global, job: Job, text: &[u8], wanted: (
 
 #[test]
 fn check_refused(rt: HostRuntime) {
-    puts_at_last(
-        &rt,
-        rt.alloc(),
-        Job::Check(Form::Hexadecimal),
-        STREAM_TEXT,
-        LISTED_STREAM,
-    );
+    let job = Job::Check(Form::Hexadecimal);
+    puts_at_last(&rt, rt.alloc(), job, STREAM_TEXT, LISTED_STREAM);
 }
 
 #[test]
 fn render_refused(rt: HostRuntime) {
-    puts_at_last(
-        &rt,
-        rt.alloc(),
-        Job::Render(Form::Hexadecimal),
-        STREAM_TEXT,
-        RENDERED_STREAM,
-    );
+    let job = Job::Render(Form::Hexadecimal);
+    puts_at_last(&rt, rt.alloc(), job, STREAM_TEXT, RENDERED_STREAM);
 }
 
 #[test]
 fn draw_refused(rt: HostRuntime) {
-    puts_at_last(
-        &rt,
-        rt.alloc(),
-        Job::Draw(Form::Hexadecimal),
-        DRAWN_TEXT,
-        DRAWN_STREAM,
-    );
+    let job = Job::Draw(Form::Hexadecimal);
+    puts_at_last(&rt, rt.alloc(), job, DRAWN_TEXT, DRAWN_STREAM);
 }
 
 #[test]
 fn draw_raw_refused(rt: HostRuntime) {
-    puts_at_last(
-        &rt,
-        rt.alloc(),
-        Job::Draw(Form::Raw),
-        DRAWN_BYTES,
-        DRAWN_STREAM,
-    );
+    let job = Job::Draw(Form::Raw);
+    puts_at_last(&rt, rt.alloc(), job, DRAWN_BYTES, DRAWN_STREAM);
 }
 
 #[test]
 fn encode_refused(rt: HostRuntime) {
-    puts_at_last(
-        &rt,
-        rt.alloc(),
-        Job::Encode(Form::Hexadecimal),
-        RECEIPT_TEXT,
-        ENCODED_LINE,
-    );
+    let job = Job::Encode(Form::Hexadecimal);
+    puts_at_last(&rt, rt.alloc(), job, RECEIPT_TEXT, ENCODED_LINE);
 }
 
 #[test]
 fn check_raw_refused(rt: HostRuntime) {
-    puts_at_last(
-        &rt,
-        rt.alloc(),
-        Job::Check(Form::Raw),
-        STREAM_BYTES,
-        LISTED_STREAM,
-    );
+    let job = Job::Check(Form::Raw);
+    puts_at_last(&rt, rt.alloc(), job, STREAM_BYTES, LISTED_STREAM);
 }
 
 #[test]
 fn render_raw_refused(rt: HostRuntime) {
-    let wanted = RENDERED_STREAM;
-    puts_at_last(
-        &rt,
-        rt.alloc(),
-        Job::Render(Form::Raw),
-        STREAM_BYTES,
-        wanted,
-    );
+    let job = Job::Render(Form::Raw);
+    puts_at_last(&rt, rt.alloc(), job, STREAM_BYTES, RENDERED_STREAM);
 }
 
 #[test]
 fn encode_raw_refused(rt: HostRuntime) {
-    puts_at_last(
-        &rt,
-        rt.alloc(),
-        Job::Encode(Form::Raw),
-        RECEIPT_TEXT,
-        ENCODED_BYTES,
-    );
+    let job = Job::Encode(Form::Raw);
+    puts_at_last(&rt, rt.alloc(), job, RECEIPT_TEXT, ENCODED_BYTES);
 }
 
 #[test]
 fn render_text_refused(rt: HostRuntime) {
-    let wanted = RENDERED_STREAM;
-    puts_at_last(
-        &rt,
-        rt.alloc(),
-        Job::RenderText(Form::Hexadecimal),
-        STREAM_TEXT,
-        wanted,
-    );
+    let job = Job::RenderText(Form::Hexadecimal);
+    puts_at_last(&rt, rt.alloc(), job, STREAM_TEXT, RENDERED_STREAM);
 }
 
 #[test]
 fn render_text_raw_refused(rt: HostRuntime) {
-    let wanted = RENDERED_STREAM;
-    puts_at_last(
-        &rt,
-        rt.alloc(),
-        Job::RenderText(Form::Raw),
-        STREAM_BYTES,
-        wanted,
-    );
+    let job = Job::RenderText(Form::Raw);
+    puts_at_last(&rt, rt.alloc(), job, STREAM_BYTES, RENDERED_STREAM);
 }
 
 #[test]
@@ -296,19 +244,19 @@ fn play_refused(rt: HostRuntime) {
 
 #[test]
 fn perform_refused(rt: HostRuntime) {
-    let plain = render_text_task(Form::Hexadecimal);
+    let plain = render_text_task();
     let image = Task::Image {
         width: LineWidth::usual(),
         threshold: None,
     };
     for (task, text, wanted) in [
-        (check_task(Form::Hexadecimal), STREAM_TEXT, LISTED_STREAM),
-        (render_task(Form::Hexadecimal), STREAM_TEXT, RENDERED_STREAM),
-        (draw_task(Form::Hexadecimal), DRAWN_TEXT, DRAWN_STREAM),
-        (encode_task(Form::Hexadecimal), RECEIPT_TEXT, ENCODED_LINE),
-        (check_task(Form::Raw), STREAM_BYTES, LISTED_STREAM),
-        (render_task(Form::Raw), STREAM_BYTES, RENDERED_STREAM),
-        (encode_task(Form::Raw), RECEIPT_TEXT, ENCODED_BYTES),
+        (check_task(), STREAM_TEXT, LISTED_STREAM),
+        (render_task(), STREAM_TEXT, RENDERED_STREAM),
+        (draw_task(), DRAWN_TEXT, DRAWN_STREAM),
+        (encode_task(), RECEIPT_TEXT, ENCODED_LINE),
+        (raw_check_task(), STREAM_BYTES, LISTED_STREAM),
+        (raw_render_task(), STREAM_BYTES, RENDERED_STREAM),
+        (raw_encode_task(), RECEIPT_TEXT, ENCODED_BYTES),
         (plain, STREAM_TEXT, RENDERED_STREAM),
         (image, PICTURE, PICTURE_ENTRY),
         (Task::Play, SCRIPT, PLAYED),
