@@ -87,13 +87,9 @@ abbrev pub OfQueueAgain : (List ℕ → ℕ → Type 0) → TillTask → Type 0
 OfQueueAgain Holds (task.QueueAgain path number) = Holds path number
 OfQueueAgain Holds t = Unit {0}
 
-abbrev pub OfDeliver : (List ℕ → Delivery → Type 0) → TillTask → Type 0
-OfDeliver Holds (task.Deliver path delivery) = Holds path delivery
+abbrev pub OfDeliver : (List ℕ → Delivery → Option ℕ → Type 0) → TillTask → Type 0
+OfDeliver Holds (task.Deliver path delivery wait) = Holds path delivery wait
 OfDeliver Holds t = Unit {0}
-
-abbrev pub OfDeliverWithin : (List ℕ → Delivery → ℕ → Type 0) → TillTask → Type 0
-OfDeliverWithin Holds (task.DeliverWithin path delivery wait) = Holds path delivery wait
-OfDeliverWithin Holds t = Unit {0}
 
 abbrev pub OfCancel : (List ℕ → ℕ → Type 0) → TillTask → Type 0
 OfCancel Holds (task.Cancel path number) = Holds path number
@@ -109,21 +105,18 @@ OfRenew Holds t = Unit {0}
 
 -- This holds unless the task is to deliver.
 abbrev pub UnlessDeliver : Type 0 → TillTask → Type 0
-UnlessDeliver Holds (task.Deliver path delivery) = Unit {0}
-UnlessDeliver Holds (task.DeliverWithin path delivery wait) = Unit {0}
+UnlessDeliver Holds (task.Deliver path delivery wait) = Unit {0}
 UnlessDeliver Holds t = Holds
 
 -- This holds unless the task is to deliver, or to renew a ledger.
 abbrev pub UnlessShared : Type 0 → TillTask → Type 0
-UnlessShared Holds (task.Deliver path delivery) = Unit {0}
-UnlessShared Holds (task.DeliverWithin path delivery wait) = Unit {0}
+UnlessShared Holds (task.Deliver path delivery wait) = Unit {0}
 UnlessShared Holds (task.Renew path new) = Unit {0}
 UnlessShared Holds t = Holds
 
 -- This holds if it is.
 abbrev pub IfShared : Type 0 → TillTask → Type 0
-IfShared Holds (task.Deliver path delivery) = Holds
-IfShared Holds (task.DeliverWithin path delivery wait) = Holds
+IfShared Holds (task.Deliver path delivery wait) = Holds
 IfShared Holds (task.Renew path new) = Holds
 IfShared Holds t = Unit {0}
 

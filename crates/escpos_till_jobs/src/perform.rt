@@ -2,11 +2,11 @@
 //!
 //! Where ledgers are kept, and how lines to printers are made, is given: the program gives its files and its network.
 
-ghost use Rattle.std.specs.Prelude.{◌≡◌, ◌≢◌, ◌+◌, ◌≤◌, ℕ, List, None, Result, Some, IsTrue};
+ghost use Rattle.std.specs.Prelude.{◌≡◌, ◌≢◌, ◌+◌, ◌≤◌, ℕ, List, Result, IsTrue};
 ghost use Rattle.escpos_jobs.specs.declared.input.TheConstants.{INPUT_LIMIT};
 ghost use Rattle.escpos_till.specs.declared.store.NoStore.{NoStore as WhyNone};
 ghost use Rattle.escpos_till_jobs.specs.Outputs.{output_of};
-ghost use Rattle.escpos_till_jobs.specs.Performing.{CancelsAt, DeliversAt, IfShared, ListsAt, OfCancel, OfDeliver, OfDeliverWithin, OfList, OfQueue, OfQueueAgain, OfQueueRaw, OfReading, OfRenew, QueuesAgainAt, QueuesAt, UnlessDeliver, UnlessReading, UnlessRenew, UnlessShared, way};
+ghost use Rattle.escpos_till_jobs.specs.Performing.{CancelsAt, DeliversAt, IfShared, ListsAt, OfCancel, OfDeliver, OfList, OfQueue, OfQueueAgain, OfQueueRaw, OfReading, OfRenew, QueuesAgainAt, QueuesAt, UnlessDeliver, UnlessReading, UnlessRenew, UnlessShared, way};
 ghost use Rattle.escpos_till_jobs.specs.Raw.{QueuesRawAt};
 ghost use Rattle.escpos_till_jobs.specs.Renewing.{RenewsAt, new_place};
 ghost use Rattle.escpos_till_jobs.specs.Words.{InLedger, place};
@@ -49,7 +49,7 @@ pub trait Ledgers<S> {
 /// Does what a till asks of a ledger, and returns how it went.
 ///
 /// A receipt is read before the ledger is opened, so that one that is refused leaves no new ledger; at most 16,777,217 bytes are pulled. For
-/// any other task the input isn't read, and only a delivery has a line made. `DeliverWithin` has one made with its wait. A delivery opens its
+/// any other task the input isn't read, and only a delivery has a line made, with its wait. It opens its
 /// ledger by `shared`, whose stores may let go of it meanwhile, and so does a renewal, which writes the new ledger by `news`; any other task
 /// opens it by `ledgers`, and has it to itself.
 pub fn perform_till<
@@ -78,9 +78,7 @@ pub fn perform_till<
         ledgers.old (output_of (W.written output.old) (W.failed output.old)) ledgers.new (output_of (W.written output.new) (W.failed output.new)) result) task.entry }
     ensures queue_again { OfQueueAgain (QueuesAgainAt (place F.opened F.closed S.faithful S.holds S.leaves S.says) ⟦<NoLine as PrinterLine>⟧.did
         ledgers.old (output_of (W.written output.old) (W.failed output.old)) ledgers.new (output_of (W.written output.new) (W.failed output.new)) result) task.entry }
-    ensures deliver { OfDeliver (DeliversAt (place G.opened G.closed T.faithful T.holds T.leaves T.says) (way P.made P.ended) L.did None
-        shared.old lines.old (output_of (W.written output.old) (W.failed output.old)) shared.new lines.new (output_of (W.written output.new) (W.failed output.new)) result) task.entry }
-    ensures deliver_within { OfDeliverWithin (λ path delivery wait. DeliversAt (place G.opened G.closed T.faithful T.holds T.leaves T.says) (way P.made P.ended) L.did (Some wait)
+    ensures deliver { OfDeliver (λ path delivery wait. DeliversAt (place G.opened G.closed T.faithful T.holds T.leaves T.says) (way P.made P.ended) L.did wait
         shared.old lines.old (output_of (W.written output.old) (W.failed output.old)) shared.new lines.new (output_of (W.written output.new) (W.failed output.new)) result path delivery) task.entry }
     ensures cancel { OfCancel (CancelsAt (place F.opened F.closed S.faithful S.holds S.leaves S.says) ⟦<NoLine as PrinterLine>⟧.did
         ledgers.old (output_of (W.written output.old) (W.failed output.old)) ledgers.new (output_of (W.written output.new) (W.failed output.new)) result) task.entry }
@@ -134,14 +132,11 @@ pub fn perform_till<
         TillTask::QueueAgain { ledger, number } => {
             do_at(alloc, ledgers, &ledger, NoLine, Word::Again(number), output).1
         }
-        TillTask::Deliver { ledger, delivery } => {
-            deliver_at(alloc, shared, lines, &ledger, delivery, None, output)
-        }
-        TillTask::DeliverWithin {
+        TillTask::Deliver {
             ledger,
             delivery,
             wait,
-        } => deliver_at(alloc, shared, lines, &ledger, delivery, Some(wait), output),
+        } => deliver_at(alloc, shared, lines, &ledger, delivery, wait, output),
         TillTask::Cancel { ledger, number } => {
             do_at(
                 alloc,

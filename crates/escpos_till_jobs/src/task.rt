@@ -61,16 +61,11 @@ pub enum TillTask<'a> {
         ledger: LedgerPath<'a>,
         number: ReceiptNumber,
     },
-    /// Deliver the receipts of this ledger that wait.
+    /// Deliver the receipts of this ledger that wait, where no wait lasts longer than `wait` seconds, if that is given.
     Deliver {
         ledger: LedgerPath<'a>,
         delivery: Delivery<'a>,
-    },
-    /// The same, where no wait lasts longer than `wait` seconds.
-    DeliverWithin {
-        ledger: LedgerPath<'a>,
-        delivery: Delivery<'a>,
-        wait: u32,
+        wait: Option<u32>,
     },
     /// Cancel the receipt of this ledger that has this number.
     Cancel {

@@ -104,17 +104,14 @@ fn takes_again(rt: &impl Abort, alloc: Global, ledger: &mut OneLedger, path: &st
 
 // The receipts that wait in the ledger at a path are delivered, with a wait and without.
 fn delivers(rt: &impl Abort, alloc: Global, ledger: &mut OneLedger, path: &str, wanted: Told) {
-    let task = TillTask::Deliver {
-        ledger: LedgerPath::new(path),
-        delivery: delivery_to(printer_address()),
-    };
-    performs(rt, alloc, ledger, (task, b""), wanted);
-    let task = TillTask::DeliverWithin {
-        ledger: LedgerPath::new(path),
-        delivery: delivery_to(printer_address()),
-        wait: 1,
-    };
-    performs(rt, alloc, ledger, (task, b""), wanted);
+    for wait in [None, Some(1)] {
+        let task = TillTask::Deliver {
+            ledger: LedgerPath::new(path),
+            delivery: delivery_to(printer_address()),
+            wait,
+        };
+        performs(rt, alloc, ledger, (task, b""), wanted);
+    }
 }
 
 const NO_LEDGER: Told = ("no ledger\n", Status::Device);

@@ -248,6 +248,7 @@ fn waits(rt: &impl Abort, alloc: Global, ledger: &mut OneLedger) -> bool {
     let task = TillTask::Deliver {
         ledger: LedgerPath::new("a"),
         delivery: delivery_to(printer_address()),
+        wait: None,
     };
     performs(
         rt,

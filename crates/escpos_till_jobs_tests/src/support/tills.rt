@@ -266,7 +266,7 @@ pub fn performed_with<R: ByteIn, W: ByteOut>(
 ) -> Status {
     let mut lines = NetworkLines::new(&Nobody);
     match task {
-        TillTask::Deliver { .. } | TillTask::DeliverWithin { .. } | TillTask::Renew { .. } => {
+        TillTask::Deliver { .. } | TillTask::Renew { .. } => {
             perform_till(alloc, other, ledger, news, &mut lines, task, input, output)
         }
         task => perform_till(alloc, ledger, other, news, &mut lines, task, input, output),

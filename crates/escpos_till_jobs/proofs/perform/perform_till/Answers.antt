@@ -1,7 +1,7 @@
 -- Each task is done as it says.
 use Rattle.std.proofs.Common.{sym, ◌∙◌, ap, subst, inl, inr, refl, Err}
 use Rattle.escpos_till_jobs.specs.Outputs.{output_of}
-use Rattle.escpos_till_jobs.specs.Performing.{OfCancel, OfDeliver, OfDeliverWithin, OfList, OfQueue, OfQueueAgain, OfQueueRaw, OfRenew}
+use Rattle.escpos_till_jobs.specs.Performing.{OfCancel, OfDeliver, OfList, OfQueue, OfQueueAgain, OfQueueRaw, OfRenew}
 use Rattle.escpos_till_jobs.proofs.RawTasks.{refuses_raw}
 use Rattle.escpos_till_jobs.proofs.Tasks.{refuses_for}
 use Rattle.escpos_till_jobs.proofs.perform.perform_till.Goals as goal
@@ -42,9 +42,6 @@ returns-in-QueueAgain-clause-queue_again g c = subst (OfQueueAgain _) (sym c.in-
 
 pub returns-in-Deliver-clause-deliver : goal.returns-in-Deliver-clause-deliver
 returns-in-Deliver-clause-deliver g c = subst (OfDeliver _) (sym c.in-Deliver.is) c.deliver_at.ensures.does
-
-pub returns-in-DeliverWithin-clause-deliver_within : goal.returns-in-DeliverWithin-clause-deliver_within
-returns-in-DeliverWithin-clause-deliver_within g c = subst (OfDeliverWithin _) (sym c.in-DeliverWithin.is) c.deliver_at-in-DeliverWithin.ensures.does
 
 pub returns-in-Cancel-clause-cancel : goal.returns-in-Cancel-clause-cancel
 returns-in-Cancel-clause-cancel g c = subst (OfCancel _) (sym c.in-Cancel.is) (_, c.do_at-in-Cancel.result.0, c.do_at-in-Cancel.ensures.does)
