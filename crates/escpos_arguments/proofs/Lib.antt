@@ -1,5 +1,4 @@
 pub mod TaskValues
-pub mod WidthValues
 pub mod TaskWords
 pub mod TillWords
 pub mod ProbeWords

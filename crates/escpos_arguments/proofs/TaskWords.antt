@@ -1,6 +1,6 @@
 -- What `clap` reads in the program's arguments.
 use Rattle.std.proofs.Common.{◌≡◌, ◌⊎◌, ◌∙◌, ◌||◌, ◌&&◌, not, zero, suc, Bool, true, false, List, [], ◌∷◌, length, Option, Some, None, Result, Ok, Err, option_map, codes, refl, sym, ap, ap₂, subst, inl, inr, arith, Contains}
-use Rattle.std.specs.Prelude.{if◌then◌else◌, IfOk}
+use Rattle.std.specs.Prelude.{if◌then◌else◌, IfOk, IsSomeAnd}
 use Rattle.std.specs.Box.{box_value}
 use Rattle.std.specs.Str.{bytes_eq}
 use Rattle.clap.specs.Words.{App, Row, Rule, Shape, Text, app_of, built, fault_of, first_of, one_of, is_simple_and_free, is_simple, subcommand_of, subcommand_rows, subcommand_rows_of, subcommand_name_of, FailsBy, HasKind, Kinds, HasMatchesOf, kind_of, IsAmong}
@@ -15,12 +15,14 @@ use Rattle.clap.specs.declared.builder.command.Command.{Command}
 use Rattle.clap.specs.declared.builder.command.Command.TheViews.{out-Command}
 use Rattle.clap.specs.declared.parser.matches.ArgMatches.{ArgMatches}
 use Rattle.clap.specs.declared.parser.matches.ArgMatches.TheViews.{out-ArgMatches, out-SubCommand}
-use Rattle.escpos_arguments.specs.Arguments.{AsksBy, IsBare, IsPlain, command_words, help_words, name_of, words_of}
+use Rattle.escpos_command.specs.declared.line_width.TheConstants.{USUAL_LINE_DOTS}
+use Rattle.escpos_arguments.specs.Arguments.{Asks, InRange, SetsNothing, StandsAlone, bare_tasks, command_words, help_words}
 use Rattle.escpos_arguments.specs.ClapAnswers.{no_task_of}
+use Rattle.escpos_jobs.specs.declared.form.Form.TheVariants.{Hexadecimal}
 use Rattle.escpos_jobs.specs.declared.task.NoTask.{NoTask}
 use Rattle.escpos_jobs.specs.declared.task.NoTask.TheVariants.{Help, Memory}
 use Rattle.escpos_jobs.specs.declared.task.Task.{Task}
-use Rattle.escpos_jobs.specs.declared.task.Task.TheVariants.{Check, CheckRaw, Render, RenderRaw, RenderAt, RenderRawAt, Draw, DrawRaw, DrawAt, DrawRawAt, RenderText, Encode, EncodeRaw, EncodeWith, Image, Play, Emulate, EmulateIn, EmulateAt, EmulateBy, Follow, FollowAt, Send, SendWithin, SendWith, Status, Loop, LoopAt}
+use Rattle.escpos_jobs.specs.declared.task.Task.TheVariants.{Check, Render, Draw, Encode, Play, Loop}
 use Rattle.std.proofs.lemmas.Slice.Eq.{bytes_eq-Decides}
 
 pub is_exact : is_simple_and_free command_words ≡ true
@@ -34,54 +36,6 @@ is_known = refl
 -- the name of the subcommand that the arguments name
 abbrev pub met_by : List Text → Option Text
 met_by texts = option_map (λ p. p.0) (subcommand_of command_words texts)
-
-pub check_passes : fault_of command_words (codes "check" ∷ []) ≡ []
-unfolding clap_on_literals
-check_passes = refl
-
-pub check_met : met_by (codes "check" ∷ []) ≡ Some (codes "check")
-unfolding clap_on_literals
-check_met = refl
-
-pub render_passes : fault_of command_words (codes "render" ∷ []) ≡ []
-unfolding clap_on_literals
-render_passes = refl
-
-pub render_met : met_by (codes "render" ∷ []) ≡ Some (codes "render")
-unfolding clap_on_literals
-render_met = refl
-
-pub draw_passes : fault_of command_words (codes "draw" ∷ []) ≡ []
-unfolding clap_on_literals
-draw_passes = refl
-
-pub draw_met : met_by (codes "draw" ∷ []) ≡ Some (codes "draw")
-unfolding clap_on_literals
-draw_met = refl
-
-pub encode_passes : fault_of command_words (codes "encode" ∷ []) ≡ []
-unfolding clap_on_literals
-encode_passes = refl
-
-pub encode_met : met_by (codes "encode" ∷ []) ≡ Some (codes "encode")
-unfolding clap_on_literals
-encode_met = refl
-
-pub play_passes : fault_of command_words (codes "play" ∷ []) ≡ []
-unfolding clap_on_literals
-play_passes = refl
-
-pub play_met : met_by (codes "play" ∷ []) ≡ Some (codes "play")
-unfolding clap_on_literals
-play_met = refl
-
-pub loop_passes : fault_of command_words (codes "loop" ∷ []) ≡ []
-unfolding clap_on_literals
-loop_passes = refl
-
-pub loop_met : met_by (codes "loop" ∷ []) ≡ Some (codes "loop")
-unfolding clap_on_literals
-loop_met = refl
 
 pub help_met : met_by (codes "help" ∷ []) ≡ Some (codes "help")
 unfolding clap_on_literals
@@ -366,192 +320,54 @@ is_word [] name e one = absurd (omega arith)
 is_word (word ∷ []) name e one = ap (λ (w : Text). w ∷ []) (is_met word name own_names (met_at word name e))
 is_word (word ∷ other ∷ rest) name e one = absurd (omega arith)
 
-pub task_met : (task : Task) → IsPlain task → met_by (words_of task) ≡ Some (name_of task)
-task_met Check alone = check_met
-task_met CheckRaw alone = absurd alone
-task_met Render alone = render_met
-task_met RenderRaw alone = absurd alone
-task_met (RenderAt width) alone = absurd alone
-task_met (RenderRawAt width) alone = absurd alone
-task_met Draw alone = draw_met
-task_met DrawRaw alone = absurd alone
-task_met (DrawAt width) alone = absurd alone
-task_met (DrawRawAt width) alone = absurd alone
-task_met (RenderText raw width) alone = absurd alone
-task_met Encode alone = encode_met
-task_met EncodeRaw alone = absurd alone
-task_met (EncodeWith raw options) alone = absurd alone
-task_met (Image width threshold) alone = absurd alone
-task_met Play alone = play_met
-task_met (Emulate address links) alone = absurd alone
-task_met (EmulateIn address links condition) alone = absurd alone
-task_met (EmulateAt address links condition width) alone = absurd alone
-task_met (EmulateBy address links condition width file) alone = absurd alone
-task_met (Follow address condition) alone = absurd alone
-task_met (FollowAt address condition width) alone = absurd alone
-task_met (Send address first openings) alone = absurd alone
-task_met (SendWithin address first openings wait) alone = absurd alone
-task_met (SendWith address first openings wait options) alone = absurd alone
-task_met (Status address wait) alone = absurd alone
-task_met Loop alone = loop_met
-task_met (LoopAt width) alone = absurd alone
+-- ---- names that ask for a task alone
 
-pub task_passes : (task : Task) → IsPlain task → fault_of command_words (words_of task) ≡ []
-task_passes Check alone = check_passes
-task_passes CheckRaw alone = absurd alone
-task_passes Render alone = render_passes
-task_passes RenderRaw alone = absurd alone
-task_passes (RenderAt width) alone = absurd alone
-task_passes (RenderRawAt width) alone = absurd alone
-task_passes Draw alone = draw_passes
-task_passes DrawRaw alone = absurd alone
-task_passes (DrawAt width) alone = absurd alone
-task_passes (DrawRawAt width) alone = absurd alone
-task_passes (RenderText raw width) alone = absurd alone
-task_passes Encode alone = encode_passes
-task_passes EncodeRaw alone = absurd alone
-task_passes (EncodeWith raw options) alone = absurd alone
-task_passes (Image width threshold) alone = absurd alone
-task_passes Play alone = play_passes
-task_passes (Emulate address links) alone = absurd alone
-task_passes (EmulateIn address links condition) alone = absurd alone
-task_passes (EmulateAt address links condition width) alone = absurd alone
-task_passes (EmulateBy address links condition width file) alone = absurd alone
-task_passes (Follow address condition) alone = absurd alone
-task_passes (FollowAt address condition width) alone = absurd alone
-task_passes (Send address first openings) alone = absurd alone
-task_passes (SendWithin address first openings wait) alone = absurd alone
-task_passes (SendWith address first openings wait options) alone = absurd alone
-task_passes (Status address wait) alone = absurd alone
-task_passes Loop alone = loop_passes
-task_passes (LoopAt width) alone = absurd alone
+-- this name alone asks for the task
+pub record AskedAlone (name : Text) (task : Task) : Type 0 where
+  pub passes : fault_of command_words (name ∷ []) ≡ []
+  pub asks : Asks (subcommand_of command_words (name ∷ [])) task
+  pub alone : StandsAlone (name ∷ []) task
+  pub in_range : InRange task
 
--- a task without values is asked for by its name
-pub plain_name : (task : Task) (name : Text) (rows : List Row) → IsPlain task → AsksBy name rows task → name ≡ name_of task
-plain_name Check name rows alone asks = asks
-plain_name CheckRaw name rows alone asks = absurd alone
-plain_name Render name rows alone asks = asks
-plain_name RenderRaw name rows alone asks = absurd alone
-plain_name (RenderAt width) name rows alone asks = absurd alone
-plain_name (RenderRawAt width) name rows alone asks = absurd alone
-plain_name Draw name rows alone asks = asks
-plain_name DrawRaw name rows alone asks = absurd alone
-plain_name (DrawAt width) name rows alone asks = absurd alone
-plain_name (DrawRawAt width) name rows alone asks = absurd alone
-plain_name (RenderText raw width) name rows alone asks = absurd alone
-plain_name Encode name rows alone asks = asks
-plain_name EncodeRaw name rows alone asks = absurd alone
-plain_name (EncodeWith raw options) name rows alone asks = absurd alone
-plain_name (Image width threshold) name rows alone asks = absurd alone
-plain_name Play name rows alone asks = asks
-plain_name (Emulate address links) name rows alone asks = absurd alone
-plain_name (EmulateIn address links condition) name rows alone asks = absurd alone
-plain_name (EmulateAt address links condition width) name rows alone asks = absurd alone
-plain_name (EmulateBy address links condition width file) name rows alone asks = absurd alone
-plain_name (Follow address condition) name rows alone asks = absurd alone
-plain_name (FollowAt address condition width) name rows alone asks = absurd alone
-plain_name (Send address first openings) name rows alone asks = absurd alone
-plain_name (SendWithin address first openings wait) name rows alone asks = absurd alone
-plain_name (SendWith address first openings wait options) name rows alone asks = absurd alone
-plain_name (Status address wait) name rows alone asks = absurd alone
-plain_name Loop name rows alone asks = asks
-plain_name (LoopAt width) name rows alone asks = absurd alone
-
--- ---- the values of a task without values
-
--- what the values say for raw, text, width and replacement
-abbrev Said : Type 0
-Said = Option Text × Option Text × Option Text × Option Text
-
-abbrev said_in : List Row → Said
-said_in rows = (first_of (codes "raw") rows, first_of (codes "text") rows, one_of (codes "width") rows, first_of (codes "replace") rows)
-
--- what is said after the name
-abbrev said_of : List Text → Option Said
-said_of texts = option_map (λ p. said_in p.1) (subcommand_of command_words texts)
-
--- a flag isn't there, or off
-abbrev IsOff : Option Text → Type 0
-IsOff o = o ≡ Some (codes "true") → ⊥
-
-none_off : IsOff None
-none_off e = cc
-
-false_off : IsOff (Some (codes "false"))
-false_off e = let bad : codes "false" ≡ codes "true" = cc in lengths (ap length bad)
+-- a flag that is off
+is_off : Some (codes "false") ≡ Some (codes "true") → ⊥
+is_off e = let bad : codes "false" ≡ codes "true" = cc in lengths (ap length bad)
   where
     lengths : length (codes "false") ≡ length (codes "true") → ⊥
     lengths e = omega (arith, e)
 
-bare_of : (rows : List Row) (raw text width replacement : Option Text) → Some (said_in rows) ≡ Some (raw, text, width, replacement)
-    → IsOff raw → IsOff text → width ≡ None → replacement ≡ None → IsBare rows
-bare_of rows raw text width replacement e raw_off text_off no_width no_replacement =
-    let said : said_in rows ≡ (raw, text, width, replacement) = cc in (
-      λ h. raw_off (sym (ap (λ (s : Said). s.0) said) ∙ h),
-      λ h. text_off (sym (ap (λ (s : Said). s.1) said) ∙ h),
-      ap (λ (s : Said). s.2) said ∙ no_width,
-      ap (λ (s : Said). s.3) said ∙ no_replacement,
-    )
-
-check_said : said_of (codes "check" ∷ []) ≡ Some (Some (codes "false"), None, None, None)
+check_alone : AskedAlone (codes "check") (Check Hexadecimal)
 unfolding clap_on_literals
-check_said = refl
+check_alone = record { passes = refl; asks = (refl, is_off); alone = λ nothing. refl; in_range = tt }
 
-render_said : said_of (codes "render" ∷ []) ≡ Some (Some (codes "false"), Some (codes "false"), None, None)
+render_alone : AskedAlone (codes "render") (Render Hexadecimal USUAL_LINE_DOTS)
 unfolding clap_on_literals
-render_said = refl
+render_alone = record { passes = refl; asks = (refl, is_off, refl, is_off); alone = λ nothing. refl; in_range = refl }
 
-draw_said : said_of (codes "draw" ∷ []) ≡ Some (Some (codes "false"), None, None, None)
+draw_alone : AskedAlone (codes "draw") (Draw Hexadecimal USUAL_LINE_DOTS)
 unfolding clap_on_literals
-draw_said = refl
+draw_alone = record { passes = refl; asks = (refl, is_off, refl); alone = λ nothing. refl; in_range = refl }
 
-encode_said : said_of (codes "encode" ∷ []) ≡ Some (Some (codes "false"), None, None, None)
+encode_alone : AskedAlone (codes "encode") (Encode Hexadecimal (record { width = USUAL_LINE_DOTS; replacement = None }))
 unfolding clap_on_literals
-encode_said = refl
+encode_alone = record { passes = refl; asks = (refl, is_off, (refl, refl)); alone = λ nothing. refl; in_range = (refl, tt) }
 
-play_said : said_of (codes "play" ∷ []) ≡ Some (None, None, None, None)
+play_alone : AskedAlone (codes "play") Play
 unfolding clap_on_literals
-play_said = refl
+play_alone = record { passes = refl; asks = refl; alone = λ nothing. refl; in_range = tt }
 
-loop_said : said_of (codes "loop" ∷ []) ≡ Some (None, None, None, None)
+loop_alone : AskedAlone (codes "loop") (Loop USUAL_LINE_DOTS)
 unfolding clap_on_literals
-loop_said = refl
+loop_alone = record { passes = refl; asks = (refl, refl); alone = λ nothing. refl; in_range = refl }
 
-bare_task : (task : Task) → IsPlain task → (rows : List Row) → Some (said_in rows) ≡ said_of (words_of task) → IsBare rows
-bare_task Check alone rows e = bare_of rows _ _ _ _ (e ∙ check_said) false_off none_off refl refl
-bare_task CheckRaw alone rows e = absurd alone
-bare_task Render alone rows e = bare_of rows _ _ _ _ (e ∙ render_said) false_off false_off refl refl
-bare_task RenderRaw alone rows e = absurd alone
-bare_task (RenderAt width) alone rows e = absurd alone
-bare_task (RenderRawAt width) alone rows e = absurd alone
-bare_task Draw alone rows e = bare_of rows _ _ _ _ (e ∙ draw_said) false_off none_off refl refl
-bare_task DrawRaw alone rows e = absurd alone
-bare_task (DrawAt width) alone rows e = absurd alone
-bare_task (DrawRawAt width) alone rows e = absurd alone
-bare_task (RenderText raw width) alone rows e = absurd alone
-bare_task Encode alone rows e = bare_of rows _ _ _ _ (e ∙ encode_said) false_off none_off refl refl
-bare_task EncodeRaw alone rows e = absurd alone
-bare_task (EncodeWith raw options) alone rows e = absurd alone
-bare_task (Image width threshold) alone rows e = absurd alone
-bare_task Play alone rows e = bare_of rows _ _ _ _ (e ∙ play_said) none_off none_off refl refl
-bare_task (Emulate address links) alone rows e = absurd alone
-bare_task (EmulateIn address links condition) alone rows e = absurd alone
-bare_task (EmulateAt address links condition width) alone rows e = absurd alone
-bare_task (EmulateBy address links condition width file) alone rows e = absurd alone
-bare_task (Follow address condition) alone rows e = absurd alone
-bare_task (FollowAt address condition width) alone rows e = absurd alone
-bare_task (Send address first openings) alone rows e = absurd alone
-bare_task (SendWithin address first openings wait) alone rows e = absurd alone
-bare_task (SendWith address first openings wait options) alone rows e = absurd alone
-bare_task (Status address wait) alone rows e = absurd alone
-bare_task Loop alone rows e = bare_of rows _ _ _ _ (e ∙ loop_said) none_off none_off refl refl
-bare_task (LoopAt width) alone rows e = absurd alone
-
--- the arguments of a task without values set nothing
-pub is_bare : (task : Task) (texts : List Text) (name : Text) (rows : List Row) → IsPlain task → Some (name, rows) ≡ subcommand_of command_words texts
-    → texts ≡ words_of task → IsBare rows
-is_bare task texts name rows alone found e =
-    bare_task task alone rows (ap (option_map (λ p. said_in p.1)) found ∙ ap said_of e)
+pub asked_alone : (name : Text) (task : Task) → Contains bare_tasks (name, task) → AskedAlone name task
+asked_alone name task (zero, below, at) = subst (λ (p : Text × Task). AskedAlone p.0 p.1) at check_alone
+asked_alone name task (suc zero, below, at) = subst (λ (p : Text × Task). AskedAlone p.0 p.1) at render_alone
+asked_alone name task (suc (suc zero), below, at) = subst (λ (p : Text × Task). AskedAlone p.0 p.1) at draw_alone
+asked_alone name task (suc (suc (suc zero)), below, at) = subst (λ (p : Text × Task). AskedAlone p.0 p.1) at encode_alone
+asked_alone name task (suc (suc (suc (suc zero))), below, at) = subst (λ (p : Text × Task). AskedAlone p.0 p.1) at play_alone
+asked_alone name task (suc (suc (suc (suc (suc zero)))), below, at) = subst (λ (p : Text × Task). AskedAlone p.0 p.1) at loop_alone
+asked_alone name task (suc (suc (suc (suc (suc (suc k))))), below, at) = absurd (omega arith)
 
 -- ---- what a parse of the arguments gives
 
@@ -602,10 +418,16 @@ pub same_name : (texts : List Text) (name other : Text) (rows : List Row) → So
     → met_by texts ≡ Some other → name ≡ other
 same_name texts name other rows found e = some_same name other (ap (option_map (λ p. p.0)) found ∙ e)
 
--- where a task without values is asked for with one argument, that argument is the task's name
-pub plain_words : (r : Result Task NoTask) (texts : List Text) (name : Text) (rows : List Row)
-    → Some (name, rows) ≡ subcommand_of command_words texts → IfOk r (AsksBy name rows)
-    → IfOk r (λ task. IsPlain task → length texts ≡ 1) → IfOk r (λ task. IsPlain task → texts ≡ words_of task)
-plain_words (Ok task) texts name rows found asks one = λ alone.
-    is_word texts (name_of task) (sym (ap (option_map (λ p. p.0)) found) ∙ ap Some (plain_name task name rows alone asks)) (one alone)
-plain_words (Err e) texts name rows found asks one = tt
+-- a task that sets nothing, and that one argument asks for, stands alone
+pub stands_alone : (r : Result Task NoTask) (texts : List Text) (name : Text) (rows : List Row)
+    → Some (name, rows) ≡ subcommand_of command_words texts
+    → IfOk r (λ task. SetsNothing rows task → length texts ≡ 1) → IfOk r (StandsAlone texts)
+stands_alone (Ok task) texts name rows found one = subst (λ o. IsSomeAnd o (λ p. SetsNothing p.1 task → texts ≡ p.0 ∷ [])) found
+    (λ nothing. is_word texts name (sym (ap (option_map (λ p. p.0)) found)) (one nothing))
+stands_alone (Err e) texts name rows found one = tt
+
+-- and the other way round
+pub one_word : (texts : List Text) (task : Task) (name : Text) (rows : List Row) → Some (name, rows) ≡ subcommand_of command_words texts
+    → StandsAlone texts task → SetsNothing rows task → length texts ≡ 1
+one_word texts task name rows found alone nothing =
+    ap length (subst (λ o. IsSomeAnd o (λ p. SetsNothing p.1 task → texts ≡ p.0 ∷ [])) (sym found) alone nothing)

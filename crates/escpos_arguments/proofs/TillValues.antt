@@ -1,12 +1,11 @@
 -- The values of a till's task.
 use Rattle.std.proofs.Common.{◌≡◌, ◌≢◌, ◌∙◌, ℕ, List, Option, Some, None, Result, Ok, Err, refl, sym, ap, subst, codes, arith}
-use Rattle.std.specs.Prelude.{◌<◌, ◌≤◌, IfSome, IsSomeAnd}
+use Rattle.std.specs.Prelude.{◌<◌, ◌≤◌, IfSome, IsSomeAnd, get_or}
 use Rattle.clap.specs.Words.{Row, first_of, one_of}
 use Rattle.escpos_arguments.specs.declared.arguments.TheConstants.{OPENINGS, MOST_OPENINGS, PATIENCE}
 use Rattle.escpos_arguments.specs.Arguments.{IsNumberOr, IsWait}
 use Rattle.escpos_arguments.specs.ClapAnswers.{IsNumberIn}
 use Rattle.escpos_arguments.proofs.TaskValues.{no_error, number_in}
-use Rattle.escpos_arguments.proofs.WidthValues.{head}
 use Rattle.escpos_arguments.specs.TillArguments.{AsksTillBy, IsTillInRange}
 use Rattle.escpos_till.specs.Copy.{IsCopyText}
 use Rattle.escpos_till.specs.Keys.{IsKey}
@@ -15,7 +14,10 @@ use Rattle.escpos_jobs.specs.declared.address.Address.{Address}
 use Rattle.escpos_jobs.specs.declared.task.NoTask.{NoTask}
 use Rattle.escpos_till_jobs.specs.declared.deliver.Delivery.{Delivery}
 use Rattle.escpos_till_jobs.specs.declared.task.TillTask.{TillTask}
-use Rattle.escpos_till_jobs.specs.declared.task.TillTask.TheVariants.{Queue, QueueAgain, QueueRaw, Deliver, DeliverWithin, Cancel, Renew, List as listing}
+use Rattle.escpos_till_jobs.specs.declared.task.TillTask.TheVariants.{Queue, QueueAgain, QueueRaw, Deliver, Cancel, Renew, List as listing}
+
+abbrev head : List ℕ → ℕ
+head bytes = get_or bytes 0 0
 
 -- An address that is asked for is taken.
 pub taken_address : (rows : List Row) (task : TillTask) (r : Result Address NoTask) (why : NoTask) → AsksTillBy (codes "deliver") rows task → r ≡ Err why
@@ -23,10 +25,7 @@ pub taken_address : (rows : List Row) (task : TillTask) (r : Result Address NoTa
 taken_address rows (Queue ledger options key) r why asks is taken = let bad = asks.0 in absurd cc
 taken_address rows (QueueRaw ledger width key) r why asks is taken = let bad = asks.0 in absurd cc
 taken_address rows (QueueAgain ledger number) r why asks is taken = let bad = asks.0 in absurd cc
-taken_address rows (Deliver ledger d) r why asks is taken =
-    let (name, path, address, openings, patience, copy, none) = asks in
-    no_error r d.address why (taken d.address address) is
-taken_address rows (DeliverWithin ledger d wait) r why asks is taken =
+taken_address rows (Deliver ledger d wait) r why asks is taken =
     let (name, path, address, openings, patience, copy, is_wait) = asks in
     no_error r d.address why (taken d.address address) is
 taken_address rows (Cancel ledger number) r why asks is taken = let bad = asks.0 in absurd cc
@@ -39,13 +38,10 @@ pub taken_wait : (rows : List Row) (task : TillTask) (r : Result (Option ℕ) No
 taken_wait rows (Queue ledger options key) r why asks range is taken = let bad = asks.0 in absurd cc
 taken_wait rows (QueueRaw ledger width key) r why asks range is taken = let bad = asks.0 in absurd cc
 taken_wait rows (QueueAgain ledger number) r why asks range is taken = let bad = asks.0 in absurd cc
-taken_wait rows (Deliver ledger d) r why asks range is taken =
-    let (name, path, address, openings, patience, copy, none) = asks in
-    no_error r None why (taken None (subst (λ o. IsNumberIn o None) (sym none) refl) tt) is
-taken_wait rows (DeliverWithin ledger d wait) r why asks range is taken =
+taken_wait rows (Deliver ledger d wait) r why asks range is taken =
     let (name, path, address, openings, patience, copy, is_wait) = asks in
     let (low, high, within, fits, in_range) = range in
-    no_error r (Some wait) why (taken (Some wait) (number_in _ wait is_wait) in_range) is
+    no_error r wait why (taken wait is_wait in_range) is
 taken_wait rows (Cancel ledger number) r why asks range is taken = let bad = asks.0 in absurd cc
 taken_wait rows (Renew ledger new) r why asks range is taken = let bad = asks.0 in absurd cc
 taken_wait rows (listing ledger first) r why asks range is taken = let bad = asks.0 in absurd cc
@@ -62,8 +58,7 @@ taken_again rows (QueueRaw ledger width key) r why asks range is taken =
 taken_again rows (QueueAgain ledger number) r why asks range is taken =
     let (name, path, given, none, bare, keyless) = asks in
     no_error r (Some number) why (taken (Some number) (number_in _ number given) range) is
-taken_again rows (Deliver ledger d) r why asks range is taken = let bad = asks.0 in absurd cc
-taken_again rows (DeliverWithin ledger d wait) r why asks range is taken = let bad = asks.0 in absurd cc
+taken_again rows (Deliver ledger d wait) r why asks range is taken = let bad = asks.0 in absurd cc
 taken_again rows (Cancel ledger number) r why asks range is taken = let bad = asks.0 in absurd cc
 taken_again rows (Renew ledger new) r why asks range is taken = let bad = asks.0 in absurd cc
 taken_again rows (listing ledger first) r why asks range is taken = let bad = asks.0 in absurd cc
@@ -80,26 +75,20 @@ taken_key rows (QueueRaw ledger width key) r why asks range is taken =
 taken_key rows (QueueAgain ledger number) r why asks range is taken =
     let (name, path, given, none, bare, keyless) = asks in
     no_error r None why (taken None keyless tt) is
-taken_key rows (Deliver ledger d) r why asks range is taken = let bad = asks.0 in absurd cc
-taken_key rows (DeliverWithin ledger d wait) r why asks range is taken = let bad = asks.0 in absurd cc
+taken_key rows (Deliver ledger d wait) r why asks range is taken = let bad = asks.0 in absurd cc
 taken_key rows (Cancel ledger number) r why asks range is taken = let bad = asks.0 in absurd cc
 taken_key rows (Renew ledger new) r why asks range is taken = let bad = asks.0 in absurd cc
 taken_key rows (listing ledger first) r why asks range is taken = let bad = asks.0 in absurd cc
 
--- The task with the values that were read.
-abbrev pub delivery_task : List ℕ → Delivery → Option ℕ → TillTask
-delivery_task ledger d None = Deliver ledger d
-delivery_task ledger d (Some wait) = DeliverWithin ledger d wait
-
 same_delivery : (ledger path : List ℕ) (a : Address) (n s : ℕ) (copy : Option (List ℕ)) (wait other : Option ℕ) (d : Delivery) → ledger ≡ path → a ≡ d.address → n ≡ d.openings
-    → s ≡ d.patience → copy ≡ d.copy → wait ≡ other → delivery_task ledger (record { address = a; openings = n; patience = s; copy = copy }) wait ≡ delivery_task path d other
+    → s ≡ d.patience → copy ≡ d.copy → wait ≡ other → Deliver ledger (record { address = a; openings = n; patience = s; copy = copy }) wait ≡ Deliver path d other
 same_delivery ledger path a n s copy wait other d e f g p h k =
-    ap (λ l. delivery_task l (record { address = a; openings = n; patience = s; copy = copy }) wait) e
-    ∙ ap (λ x. delivery_task path (record { address = x; openings = n; patience = s; copy = copy }) wait) f
-    ∙ ap (λ x. delivery_task path (record { address = d.address; openings = x; patience = s; copy = copy }) wait) g
-    ∙ ap (λ x. delivery_task path (record { address = d.address; openings = d.openings; patience = x; copy = copy }) wait) p
-    ∙ ap (λ x. delivery_task path (record { address = d.address; openings = d.openings; patience = d.patience; copy = x }) wait) h
-    ∙ ap (λ x. delivery_task path d x) k
+    ap (λ l. Deliver l (record { address = a; openings = n; patience = s; copy = copy }) wait) e
+    ∙ ap (λ x. Deliver path (record { address = x; openings = n; patience = s; copy = copy }) wait) f
+    ∙ ap (λ x. Deliver path (record { address = d.address; openings = x; patience = s; copy = copy }) wait) g
+    ∙ ap (λ x. Deliver path (record { address = d.address; openings = d.openings; patience = x; copy = copy }) wait) p
+    ∙ ap (λ x. Deliver path (record { address = d.address; openings = d.openings; patience = d.patience; copy = x }) wait) h
+    ∙ ap (λ x. Deliver path d x) k
 
 -- The values that were read are those that are asked for.
 pub taken_task : (rows : List Row) (task : TillTask) (ledger : List ℕ) (a : Address) (n s : ℕ) (copy : Option (List ℕ)) (wait : Option ℕ) → AsksTillBy (codes "deliver") rows task → IsTillInRange task
@@ -109,20 +98,15 @@ pub taken_task : (rows : List Row) (task : TillTask) (ledger : List ℕ) (a : Ad
     → ((m : ℕ) → IsNumberOr PATIENCE (one_of (codes "patience") rows) m → IsWait m → s ≡ m)
     → ((text : Option (List ℕ)) → first_of (codes "copy") rows ≡ text → IfSome text IsCopyText → copy ≡ text)
     → ((other : Option ℕ) → IsNumberIn (one_of (codes "wait") rows) other → IfSome other IsWait → wait ≡ other)
-    → delivery_task ledger (record { address = a; openings = n; patience = s; copy = copy }) wait ≡ task
+    → Deliver ledger (record { address = a; openings = n; patience = s; copy = copy }) wait ≡ task
 taken_task rows (Queue path options key) ledger a n s copy wait asks range l b m p k w = let bad = asks.0 in absurd cc
 taken_task rows (QueueRaw path width key) ledger a n s copy wait asks range l b m p k w = let bad = asks.0 in absurd cc
 taken_task rows (QueueAgain path number) ledger a n s copy wait asks range l b m p k w = let bad = asks.0 in absurd cc
-taken_task rows (Deliver path d) ledger a n s copy wait asks range l b m p k w =
-    let (name, is_path, address, openings, patience, is_copy, none) = asks in
-    let (low, high, within, fits) = range in
-    same_delivery ledger path a n s copy wait None d (l path is_path) (b d.address address) (m d.openings openings low high) (p d.patience patience within) (k d.copy is_copy fits)
-    (w None (subst (λ o. IsNumberIn o None) (sym none) refl) tt)
-taken_task rows (DeliverWithin path d given) ledger a n s copy wait asks range l b m p k w =
+taken_task rows (Deliver path d other) ledger a n s copy wait asks range l b m p k w =
     let (name, is_path, address, openings, patience, is_copy, is_wait) = asks in
     let (low, high, within, fits, in_range) = range in
-    same_delivery ledger path a n s copy wait (Some given) d (l path is_path) (b d.address address) (m d.openings openings low high) (p d.patience patience within) (k d.copy is_copy fits)
-    (w (Some given) (number_in _ given is_wait) in_range)
+    same_delivery ledger path a n s copy wait other d (l path is_path) (b d.address address) (m d.openings openings low high) (p d.patience patience within) (k d.copy is_copy fits)
+    (w other is_wait in_range)
 taken_task rows (Cancel path number) ledger a n s copy wait asks range l b m p k w = let bad = asks.0 in absurd cc
 taken_task rows (Renew path new) ledger a n s copy wait asks range l b m p k w = let bad = asks.0 in absurd cc
 taken_task rows (listing path first) ledger a n s copy wait asks range l b m p k w = let bad = asks.0 in absurd cc
@@ -140,8 +124,7 @@ pub taken_renewal : (rows : List Row) (task : TillTask) (ledger new : List ℕ) 
 taken_renewal rows (Queue path options key) ledger new r asks is same taken = let bad = asks.0 in absurd cc
 taken_renewal rows (QueueRaw path width key) ledger new r asks is same taken = let bad = asks.0 in absurd cc
 taken_renewal rows (QueueAgain path number) ledger new r asks is same taken = let bad = asks.0 in absurd cc
-taken_renewal rows (Deliver path d) ledger new r asks is same taken = let bad = asks.0 in absurd cc
-taken_renewal rows (DeliverWithin path d wait) ledger new r asks is same taken = let bad = asks.0 in absurd cc
+taken_renewal rows (Deliver path d other) ledger new r asks is same taken = let bad = asks.0 in absurd cc
 taken_renewal rows (Cancel path number) ledger new r asks is same taken = absurd (cancels_no_ledger asks.0)
 taken_renewal rows (Renew path other) ledger new r asks is same taken =
     let (name, is_path, is_other, none) = asks in
@@ -157,8 +140,7 @@ pub taken_listing : (rows : List Row) (task : TillTask) (ledger : List ℕ) (r :
 taken_listing rows (Queue path options key) ledger r asks is same taken = let bad = asks.0 in absurd cc
 taken_listing rows (QueueRaw path width key) ledger r asks is same taken = let bad = asks.0 in absurd cc
 taken_listing rows (QueueAgain path number) ledger r asks is same taken = let bad = asks.0 in absurd cc
-taken_listing rows (Deliver path d) ledger r asks is same taken = let bad = asks.0 in absurd cc
-taken_listing rows (DeliverWithin path d wait) ledger r asks is same taken = let bad = asks.0 in absurd cc
+taken_listing rows (Deliver path d other) ledger r asks is same taken = let bad = asks.0 in absurd cc
 taken_listing rows (Cancel path number) ledger r asks is same taken = absurd (cancels_no_ledger asks.0)
 taken_listing rows (Renew path other) ledger r asks is same taken =
     let (name, is_path, is_other, none) = asks in

@@ -4,15 +4,14 @@ use Rattle.clap.specs.Words.{App, Row, Rule, Shape, Text, first_of, new_app, new
 use Rattle.clap.specs.Simple.{on_top}
 use Rattle.clap.specs.declared.builder.action.ArgAction.TheVariants.{Set}
 use Rattle.escpos_command.specs.LineWidths.{is_line_width}
-use Rattle.escpos_command.specs.declared.line_width.TheConstants.{USUAL_LINE_DOTS}
 use Rattle.escpos_arguments.specs.declared.arguments.TheConstants.{OPENINGS, MOST_OPENINGS, PATIENCE}
-use Rattle.escpos_arguments.specs.Arguments.{IsNumberOr, IsOptions, IsWait, GivesOptions, HasNoOptions, HasNoReplacement, HasRaw, address_rule, flag_rule, option_rule, replace_rule, width_rule}
+use Rattle.escpos_arguments.specs.Arguments.{IsNumberOr, IsOptions, IsWait, GivesOptions, GivesWidth, HasNoOptions, HasNoReplacement, HasRaw, address_rule, flag_rule, option_rule, replace_rule, width_rule}
 use Rattle.escpos_arguments.specs.ClapAnswers.{IsNumber, IsNumberIn}
 use Rattle.escpos_jobs.specs.Address.{IsAddress}
 use Rattle.escpos_till.specs.Copy.{IsCopyText}
 use Rattle.escpos_till.specs.Keys.{IsKey}
 use Rattle.escpos_till_jobs.specs.declared.task.TillTask.{TillTask}
-use Rattle.escpos_till_jobs.specs.declared.task.TillTask.TheVariants.{Queue, QueueAgain, QueueRaw, Deliver, DeliverWithin, Cancel, Renew, List as listing}
+use Rattle.escpos_till_jobs.specs.declared.task.TillTask.TheVariants.{Queue, QueueAgain, QueueRaw, Deliver, Cancel, Renew, List as listing}
 
 -- ---- what the arguments ask for
 
@@ -31,7 +30,7 @@ AsksTillBy name rows (Queue ledger options key) = (name ≡ codes "queue")
 AsksTillBy name rows (QueueRaw ledger width key) = (name ≡ codes "queue")
     × (first_of (codes "ledger") rows ≡ Some ledger)
     × (one_of (codes "again") rows ≡ None)
-    × IsNumberOr USUAL_LINE_DOTS (one_of (codes "width") rows) width
+    × GivesWidth rows width
     × HasNoReplacement rows
     × HasRaw rows
     × (first_of (codes "key") rows ≡ key)
@@ -41,20 +40,13 @@ AsksTillBy name rows (QueueAgain ledger number) = (name ≡ codes "queue")
     × HasNoOptions rows
     × (¬ HasRaw rows)
     × (first_of (codes "key") rows ≡ None)
-AsksTillBy name rows (Deliver ledger delivery) = (name ≡ codes "deliver")
+AsksTillBy name rows (Deliver ledger delivery wait) = (name ≡ codes "deliver")
     × (first_of (codes "ledger") rows ≡ Some ledger)
     × IsSomeAnd (first_of (codes "address") rows) (λ text. IsAddress text delivery.address)
     × IsNumberOr OPENINGS (one_of (codes "openings") rows) delivery.openings
     × IsNumberOr PATIENCE (one_of (codes "patience") rows) delivery.patience
     × (first_of (codes "copy") rows ≡ delivery.copy)
-    × (one_of (codes "wait") rows ≡ None)
-AsksTillBy name rows (DeliverWithin ledger delivery wait) = (name ≡ codes "deliver")
-    × (first_of (codes "ledger") rows ≡ Some ledger)
-    × IsSomeAnd (first_of (codes "address") rows) (λ text. IsAddress text delivery.address)
-    × IsNumberOr OPENINGS (one_of (codes "openings") rows) delivery.openings
-    × IsNumberOr PATIENCE (one_of (codes "patience") rows) delivery.patience
-    × (first_of (codes "copy") rows ≡ delivery.copy)
-    × IsSomeAnd (one_of (codes "wait") rows) (λ text. IsNumber text wait)
+    × IsNumberIn (one_of (codes "wait") rows) wait
 AsksTillBy name rows (Cancel ledger number) = (name ≡ codes "cancel")
     × (first_of (codes "ledger") rows ≡ Some ledger)
     × IsSomeAnd (one_of (codes "number") rows) (λ text. IsNumber text number)
@@ -76,8 +68,7 @@ abbrev pub IsTillInRange : TillTask → Type 0
 IsTillInRange (Queue ledger options key) = IsOptions options × IfSome key IsKey
 IsTillInRange (QueueRaw ledger width key) = IsTrue (is_line_width width) × IfSome key IsKey
 IsTillInRange (QueueAgain ledger number) = 0 < number
-IsTillInRange (Deliver ledger delivery) = (1 ≤ delivery.openings) × (delivery.openings ≤ MOST_OPENINGS) × IsWait delivery.patience × IfSome delivery.copy IsCopyText
-IsTillInRange (DeliverWithin ledger delivery wait) = (1 ≤ delivery.openings) × (delivery.openings ≤ MOST_OPENINGS) × IsWait delivery.patience × IfSome delivery.copy IsCopyText × IsWait wait
+IsTillInRange (Deliver ledger delivery wait) = (1 ≤ delivery.openings) × (delivery.openings ≤ MOST_OPENINGS) × IsWait delivery.patience × IfSome delivery.copy IsCopyText × IfSome wait IsWait
 IsTillInRange (Cancel ledger number) = 0 < number
 IsTillInRange (Renew ledger new) = Unit {0}
 IsTillInRange (listing ledger first) = Unit {0}

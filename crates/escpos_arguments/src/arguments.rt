@@ -1,17 +1,18 @@
 //! The arguments of the command line: which task they name, and which refusal they get where they name none.
 
-ghost use Rattle.std.specs.Prelude.{◌≡◌, ◌≢◌, ◌⊎◌, ◌≤◌, ◌<◌, ◌↔◌, ℕ, Option, Some, None, [], ◌∷◌, false, IfErr, IfOk, IfSome, IsSomeAnd, unwrap_or, IsTrue, Contains, codes, drop, map};
+ghost use Rattle.std.specs.Prelude.{◌≡◌, ◌≢◌, ◌⊎◌, ◌≤◌, ◌<◌, ◌↔◌, ℕ, List, Option, Some, None, [], ◌∷◌, false, IfErr, IfOk, IfSome, IsSomeAnd, IsTrue, Contains, codes, drop, map};
 ghost use Rattle.clap.specs.Words.{HasKind, IsAmong, app_of, fault_of, first_of, found_of, kind_of, one_of, rows_of, rule_of, subcommand_of, subcommand_rows_of};
 ghost use Rattle.escpos_jobs.specs.Address.{IsAddress};
 ghost use Rattle.escpos_jobs.specs.declared.address.Address.{Address};
 ghost use Rattle.escpos_jobs.specs.declared.task.Task.{Task};
-ghost use Rattle.escpos_arguments.specs.Arguments.{Asks, AsksBy, HasFlag, InRange, IsConditionOr, IsNumberOr, IsBare, IsPlain, IsWait, address_rule, asking_words, command_words, emulate_words, encode_words, flag_rule, help_words, image_words, loop_words, name_of, option_rule, paper_words, raw_words, render_words, send_words, stream_words, words_of};
+ghost use Rattle.escpos_arguments.specs.Arguments.{Asks, AsksBy, HasFlag, InRange, IsNumberOr, IsWait, SetsNothing, StandsAlone, address_rule, asking_words, bare_tasks, command_words, emulate_words, encode_words, flag_rule, help_words, image_words, loop_words, option_rule, paper_words, raw_words, render_words, send_words, stream_words};
 ghost use Rattle.escpos_arguments.specs.ClapAnswers.{IsNumber, IsNumberIn, no_task_of};
 
 use crate::emulate::emulate_asked;
+use crate::form::check_asked;
 use crate::image::image_asked;
-use crate::options::{encode_asked, options_given};
-use crate::width::{draw_asked, loop_asked, render_asked};
+use crate::options::{encode_asked, has_no_options, options_or_usual};
+use crate::width::{draw_asked, has_no_width, loop_asked, render_asked};
 use clap::error::ErrorKind;
 use clap::{Arg, ArgAction, ArgMatches, Command};
 use escpos_jobs::address::Address;
@@ -72,16 +73,16 @@ pub fn asks_version<S: AsStr>(words: &[S]) -> bool
 /// The task that the arguments ask for. The program's own name isn't among them.
 ///
 /// `Help` comes where they ask for help, `Memory` where an allocation failed, and `Usage` for all other arguments that name
-/// no task.
+/// no task, also where `--` follows a name after which nothing is set.
 pub fn task_of<S: AsStr>(alloc: Global, words: &[S]) -> Result<Task, NoTask>
     ensures asks { IfOk result (Asks (subcommand_of command_words (map S.text words.now))) }
     ensures ranges { IfOk result InRange }
     ensures passed { IfOk result (λ task. fault_of command_words (map S.text words.now) ≡ []) }
-    ensures words { IfOk result (λ task. IsPlain task → map S.text words.now ≡ words_of task) }
-    ensures named { (task : Task) → IsPlain task → map S.text words.now ≡ words_of task
+    ensures words { IfOk result (StandsAlone (map S.text words.now)) }
+    ensures named { (name : List ℕ) (task : Task) → Contains bare_tasks (name, task) → map S.text words.now ≡ name ∷ []
         → (result ≡ Ok task) ⊎ (result ≡ Err NoTask.Memory) }
-    ensures taken { (task : Task) → ¬ IsPlain task → fault_of command_words (map S.text words.now) ≡ []
-        → Asks (subcommand_of command_words (map S.text words.now)) task → InRange task
+    ensures taken { (task : Task) → fault_of command_words (map S.text words.now) ≡ []
+        → Asks (subcommand_of command_words (map S.text words.now)) task → StandsAlone (map S.text words.now) task → InRange task
         → (result ≡ Ok task) ⊎ (result ≡ Err NoTask.Memory) }
     ensures help { Contains help_words (map S.text words.now) → (result ≡ Err NoTask.Help) ⊎ (result ≡ Err NoTask.Memory) }
     ensures help_only { result ≡ Err NoTask.Help → (map S.text words.now ≡ codes "help" ∷ [])
@@ -112,27 +113,56 @@ pub(crate) fn no_task(refusal: &clap::Error) -> NoTask
 fn task_asked(name: &str, given: &ArgMatches, count: usize) -> Result<Task, NoTask>
     ensures asks { IfOk result (AsksBy name.now (rows_of (found_of given.now))) }
     ensures ranges { IfOk result InRange }
-    ensures alone { IfOk result (λ task. IsPlain task → count ≡ 1) }
-    ensures named { (task : Task) → IsPlain task → name.now ≡ name_of task → count ≡ 1 → IsBare (rows_of (found_of given.now)) → result ≡ Ok task }
-    ensures taken { (task : Task) → ¬ IsPlain task → AsksBy name.now (rows_of (found_of given.now)) task → InRange task
-        → result ≡ Ok task }
+    ensures alone { IfOk result (λ task. SetsNothing (rows_of (found_of given.now)) task → count ≡ 1) }
+    ensures taken { (task : Task) → AsksBy name.now (rows_of (found_of given.now)) task → (SetsNothing (rows_of (found_of given.now)) task → count ≡ 1)
+        → InRange task → result ≡ Ok task }
     ensures help { name.now ≡ codes "help" → count ≡ 1 → result ≡ Err NoTask.Help }
     ensures help_only { result ≡ Err NoTask.Help → (name.now ≡ codes "help") × (count ≡ 1) }
 {
+    match task_named(name, given) {
+        Ok(task) if count != 1 && sets_nothing(given, &task) => Err(NoTask::Usage),
+        Err(NoTask::Help) if count != 1 => Err(NoTask::Usage),
+        asked => asked,
+    }
+}
+
+// The same whatever stands beside the name and what is set after it.
+fn task_named(name: &str, given: &ArgMatches) -> Result<Task, NoTask>
+    ensures asks { IfOk result (AsksBy name.now (rows_of (found_of given.now))) }
+    ensures ranges { IfOk result InRange }
+    ensures taken { (task : Task) → AsksBy name.now (rows_of (found_of given.now)) task → InRange task → result ≡ Ok task }
+    ensures help { name.now ≡ codes "help" → result ≡ Err NoTask.Help }
+    ensures help_only { result ≡ Err NoTask.Help → name.now ≡ codes "help" }
+{
     match name {
-        "check" if has_flag(given, "raw") => Ok(Task::CheckRaw),
-        "check" if count == 1 => Ok(Task::Check),
-        "render" => render_asked(given, count),
-        "draw" => draw_asked(given, count),
-        "encode" => encode_asked(given, count),
+        "check" => Ok(check_asked(given)),
+        "render" => render_asked(given),
+        "draw" => draw_asked(given),
+        "encode" => encode_asked(given),
         "image" => image_asked(given),
-        "play" if count == 1 => Ok(Task::Play),
+        "play" => Ok(Task::Play),
         "emulate" => emulate_asked(given),
         "send" => send_asked(given),
         "status" => status_asked(given),
-        "loop" => loop_asked(given, count),
-        "help" if count == 1 => Err(NoTask::Help),
+        "loop" => loop_asked(given),
+        "help" => Err(NoTask::Help),
         _ => Err(NoTask::Usage),
+    }
+}
+
+// Whether a task that needs no settings has none.
+fn sets_nothing(given: &ArgMatches, task: &Task) -> bool
+    ensures { IsTrue result ↔ SetsNothing (rows_of (found_of given.now)) task.now }
+{
+    match task {
+        Task::Check { .. } => !has_flag(given, "raw"),
+        Task::Render { .. } | Task::Draw { .. } => {
+            !has_flag(given, "raw") && has_no_width(given)
+        }
+        Task::Encode { .. } => !has_flag(given, "raw") && has_no_options(given),
+        Task::Play => true,
+        Task::Loop { .. } => has_no_width(given),
+        _ => false,
     }
 }
 
@@ -150,7 +180,6 @@ pub(crate) fn has_flag(given: &ArgMatches, name: &str) -> bool
 fn send_asked(given: &ArgMatches) -> Result<Task, NoTask>
     ensures asks { IfOk result (AsksBy (codes "send") (rows_of (found_of given.now))) }
     ensures ranges { IfOk result InRange }
-    ensures values { IfOk result (λ task. ¬ IsPlain task) }
     ensures taken { (task : Task) → AsksBy (codes "send") (rows_of (found_of given.now)) task → InRange task
         → result ≡ Ok task }
     ensures usage { IfErr result (λ why. why ≡ NoTask.Usage) }
@@ -159,33 +188,20 @@ fn send_asked(given: &ArgMatches) -> Result<Task, NoTask>
     let first = first_mark_of(given)?;
     let openings = count_of(given, "openings", OPENINGS, MOST_OPENINGS)?;
     let wait = wait_given(given)?;
-    match (options_given(given)?, wait) {
-        (Some(options), wait) => Ok(Task::SendWith {
-            address,
-            first,
-            openings,
-            wait,
-            options,
-        }),
-        (None, Some(wait)) => Ok(Task::SendWithin {
-            address,
-            first,
-            openings,
-            wait,
-        }),
-        (None, None) => Ok(Task::Send {
-            address,
-            first,
-            openings,
-        }),
-    }
+    let options = options_or_usual(given)?;
+    Ok(Task::Send {
+        address,
+        first,
+        openings,
+        wait,
+        options,
+    })
 }
 
 // The task of `status` with the arguments that follow it.
 fn status_asked(given: &ArgMatches) -> Result<Task, NoTask>
     ensures asks { IfOk result (AsksBy (codes "status") (rows_of (found_of given.now))) }
     ensures ranges { IfOk result InRange }
-    ensures values { IfOk result (λ task. ¬ IsPlain task) }
     ensures taken { (task : Task) → AsksBy (codes "status") (rows_of (found_of given.now)) task → InRange task
         → result ≡ Ok task }
     ensures usage { IfErr result (λ why. why ≡ NoTask.Usage) }

@@ -3,13 +3,12 @@
 ghost use Rattle.std.specs.Prelude.{◌≡◌, ℕ, Option, IfErr, IfOk, IfSome, codes};
 ghost use Rattle.clap.specs.Words.{found_of, one_of, rows_of};
 ghost use Rattle.escpos_jobs.specs.declared.task.Task.{Task};
-ghost use Rattle.escpos_arguments.specs.Arguments.{AsksBy, InRange, IsPlain, IsThreshold};
+ghost use Rattle.escpos_arguments.specs.Arguments.{AsksBy, InRange, IsThreshold};
 ghost use Rattle.escpos_arguments.specs.ClapAnswers.{IsNumberIn};
 
 use crate::arguments::number_given;
-use crate::width::width_given;
+use crate::width::width_or_usual;
 use clap::ArgMatches;
-use escpos_command::LineWidth;
 use escpos_jobs::task::{NoTask, Task};
 
 /// The greatest threshold: a dot is black where its gray value, 0 to 255, is below it.
@@ -21,11 +20,10 @@ const _: () = prove!(MOST_THRESHOLD == 255);
 pub(crate) fn image_asked(given: &ArgMatches) -> Result<Task, NoTask>
     ensures asks { IfOk result (AsksBy (codes "image") (rows_of (found_of given.now))) }
     ensures ranges { IfOk result InRange }
-    ensures values { IfOk result (λ task. ¬ IsPlain task) }
     ensures taken { (task : Task) → AsksBy (codes "image") (rows_of (found_of given.now)) task → InRange task → result ≡ Ok task }
     ensures usage { IfErr result (λ why. why ≡ NoTask.Usage) }
 {
-    let width = width_given(given)?.unwrap_or(LineWidth::usual());
+    let width = width_or_usual(given)?;
     let threshold = threshold_given(given)?;
     Ok(Task::Image { width, threshold })
 }

@@ -1,51 +1,30 @@
 //! The options of a receipt among the arguments: the width of a line, and a replacement for characters that no code table has; and the
 //! task of `encode`, which may be given both.
 
-ghost use Rattle.std.specs.Prelude.{◌≡◌, ◌∷◌, [], ℕ, Option, None, Some, IfErr, IfOk, IfSome, IsTrue, codes};
+ghost use Rattle.std.specs.Prelude.{◌≡◌, ◌↔◌, ◌∷◌, [], ℕ, Option, Some, IfErr, IfOk, IfSome, IsTrue, codes};
 ghost use Rattle.clap.specs.Words.{found_of, first_of, rows_of};
 ghost use Rattle.escpos_text.specs.Replacements.{is_replacement};
 ghost use Rattle.escpos_receipt.specs.declared.options.ReceiptOptions.{ReceiptOptions};
 ghost use Rattle.escpos_jobs.specs.declared.task.Task.{Task};
-ghost use Rattle.escpos_arguments.specs.Arguments.{AsksBy, HasNoOptions, HasOptions, HasRaw, InRange, IsOptions, IsPlain, IsReplacedBy, GivesOptions};
-ghost use Rattle.escpos_arguments.specs.ReceiptTasks.{options_of};
+ghost use Rattle.escpos_arguments.specs.Arguments.{AsksBy, GivesOptions, HasNoOptions, InRange, IsOptions, IsReplacedBy};
 
-use crate::arguments::has_flag;
-use crate::width::width_given;
+use crate::form::form_given;
+use crate::width::{has_no_width, width_or_usual};
 use clap::ArgMatches;
-use escpos_command::LineWidth;
 use escpos_jobs::task::{NoTask, Task};
 use escpos_receipt::ReceiptOptions;
 use escpos_text::Replacement;
 
-// The task of `encode` with the arguments that follow it; `count` is the number of all arguments.
-pub(crate) fn encode_asked(given: &ArgMatches, count: usize) -> Result<Task, NoTask>
+// The task of `encode` with the arguments that follow it.
+pub(crate) fn encode_asked(given: &ArgMatches) -> Result<Task, NoTask>
     ensures asks { IfOk result (AsksBy (codes "encode") (rows_of (found_of given.now))) }
     ensures ranges { IfOk result InRange }
-    ensures alone { IfOk result (λ task. IsPlain task → count ≡ 1) }
-    ensures named { count ≡ 1 → ¬ HasRaw (rows_of (found_of given.now)) → HasNoOptions (rows_of (found_of given.now)) → result ≡ Ok Task.Encode }
-    ensures taken { (task : Task) → ¬ IsPlain task → AsksBy (codes "encode") (rows_of (found_of given.now)) task → InRange task → result ≡ Ok task }
+    ensures taken { (task : Task) → AsksBy (codes "encode") (rows_of (found_of given.now)) task → InRange task → result ≡ Ok task }
     ensures usage { IfErr result (λ why. why ≡ NoTask.Usage) }
 {
-    let raw = has_flag(given, "raw");
-    match options_given(given)? {
-        Some(options) => Ok(Task::EncodeWith { raw, options }),
-        None if raw => Ok(Task::EncodeRaw),
-        None if count == 1 => Ok(Task::Encode),
-        None => Err(NoTask::Usage),
-    }
-}
-
-// The options of a receipt, if one of them is given.
-pub(crate) fn options_given(given: &ArgMatches) -> Result<Option<ReceiptOptions>, NoTask>
-    ensures none { result ≡ Ok None → HasNoOptions (rows_of (found_of given.now)) }
-    ensures read { (options : ReceiptOptions) → result ≡ Ok (Some options) → HasOptions (rows_of (found_of given.now)) options × IsOptions options }
-    ensures taken_none { HasNoOptions (rows_of (found_of given.now)) → result ≡ Ok None }
-    ensures taken { (options : ReceiptOptions) → HasOptions (rows_of (found_of given.now)) options → IsOptions options → result ≡ Ok (Some options) }
-    ensures usage { IfErr result (λ why. why ≡ NoTask.Usage) }
-{
-    let width = width_given(given)?;
-    let replacement = replacement_given(given)?;
-    Ok(options_of(width, replacement))
+    let form = form_given(given);
+    let options = options_or_usual(given)?;
+    Ok(Task::Encode { form, options })
 }
 
 // The options of a receipt; where one of them isn't given, the usual one.
@@ -55,25 +34,16 @@ pub(crate) fn options_or_usual(given: &ArgMatches) -> Result<ReceiptOptions, NoT
     ensures taken { (options : ReceiptOptions) → GivesOptions (rows_of (found_of given.now)) options → IsOptions options → result ≡ Ok options }
     ensures usage { IfErr result (λ why. why ≡ NoTask.Usage) }
 {
-    let width = width_given(given)?;
+    let width = width_or_usual(given)?;
     let replacement = replacement_given(given)?;
-    Ok(ReceiptOptions {
-        width: width.unwrap_or(LineWidth::usual()),
-        replacement,
-    })
+    Ok(ReceiptOptions { width, replacement })
 }
 
-// The options that have these, if there is one of them.
-fn options_of(width: Option<LineWidth>, replacement: Option<Replacement>) -> Option<ReceiptOptions>
-    ensures { result ≡ options_of width replacement }
+// Whether neither the width of a line nor a replacement is given.
+pub(crate) fn has_no_options(given: &ArgMatches) -> bool
+    ensures { IsTrue result ↔ HasNoOptions (rows_of (found_of given.now)) }
 {
-    match (width, replacement) {
-        (None, None) => None,
-        (width, replacement) => Some(ReceiptOptions {
-            width: width.unwrap_or(LineWidth::usual()),
-            replacement,
-        }),
-    }
+    has_no_width(given) && given.get_str("replace").is_none()
 }
 
 // What is printed in place of a character that no code table has, if that is given: one printed character of ASCII.

@@ -2,17 +2,16 @@
 
 ghost use Rattle.std.specs.Prelude.{◌≡◌, ◌<◌, ℕ, None, Ok, Option, IfErr, IfOk, IfSome, IsTrue, codes};
 ghost use Rattle.clap.specs.Words.{Text, first_of, found_of, one_of, rows_of};
-ghost use Rattle.escpos_arguments.specs.Arguments.{GivesOptions, HasNoOptions, HasNoReplacement, IsNumberOr, IsOptions};
+ghost use Rattle.escpos_arguments.specs.Arguments.{GivesOptions, GivesWidth, HasNoOptions, HasNoReplacement, IsOptions};
 ghost use Rattle.escpos_arguments.specs.ClapAnswers.{IsNumberIn};
 ghost use Rattle.escpos_arguments.specs.TillArguments.{AsksTillBy, IsTillInRange};
 ghost use Rattle.escpos_command.specs.LineWidths.{is_line_width};
-ghost use Rattle.escpos_command.specs.declared.line_width.TheConstants.{USUAL_LINE_DOTS};
 ghost use Rattle.escpos_receipt.specs.declared.options.ReceiptOptions.{ReceiptOptions as Options};
 ghost use Rattle.escpos_till.specs.Keys.{IsKey};
 ghost use Rattle.escpos_till_jobs.specs.declared.task.TillTask.{TillTask};
 
 use crate::arguments::{has_flag, number_given};
-use crate::options::{options_given, options_or_usual};
+use crate::options::{has_no_options, options_or_usual};
 use crate::till::ledger_path;
 use clap::ArgMatches;
 use escpos_jobs::task::NoTask;
@@ -49,9 +48,10 @@ fn again_asked<'a>(
     ensures taken { HasNoOptions (rows_of (found_of given.now)) → key ≡ None → result ≡ Ok (TillTask.QueueAgain ledger.entry number) }
     ensures usage { IfErr result (λ why. why ≡ NoTask.Usage) }
 {
-    match options_given(given)? {
-        None if key.is_none() => Ok(TillTask::QueueAgain { ledger, number }),
-        _ => Err(NoTask::Usage),
+    if key.is_none() && has_no_options(given) {
+        Ok(TillTask::QueueAgain { ledger, number })
+    } else {
+        Err(NoTask::Usage)
     }
 }
 
@@ -79,9 +79,9 @@ fn raw_asked<'a>(
     ledger: LedgerPath<'a>,
     key: Option<ReceiptKey>,
 ) -> Result<TillTask<'a>, NoTask>
-    ensures asks { IfOk result (λ task. (width : ℕ) × (task ≡ TillTask.QueueRaw ledger.entry width key) × IsNumberOr USUAL_LINE_DOTS (one_of (codes "width") (rows_of (found_of given.now))) width
+    ensures asks { IfOk result (λ task. (width : ℕ) × (task ≡ TillTask.QueueRaw ledger.entry width key) × GivesWidth (rows_of (found_of given.now)) width
         × HasNoReplacement (rows_of (found_of given.now)) × IsTrue (is_line_width width)) }
-    ensures taken { (width : ℕ) → IsNumberOr USUAL_LINE_DOTS (one_of (codes "width") (rows_of (found_of given.now))) width → HasNoReplacement (rows_of (found_of given.now))
+    ensures taken { (width : ℕ) → GivesWidth (rows_of (found_of given.now)) width → HasNoReplacement (rows_of (found_of given.now))
         → IsTrue (is_line_width width) → result ≡ Ok (TillTask.QueueRaw ledger.entry width key) }
     ensures usage { IfErr result (λ why. why ≡ NoTask.Usage) }
 {

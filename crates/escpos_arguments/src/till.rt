@@ -86,14 +86,12 @@ fn deliver_asked<'a>(given: &ArgMatches<'a>) -> Result<TillTask<'a>, NoTask>
         patience,
         copy,
     };
-    match wait_given(given)? {
-        Some(wait) => Ok(TillTask::DeliverWithin {
-            ledger,
-            delivery,
-            wait,
-        }),
-        None => Ok(TillTask::Deliver { ledger, delivery }),
-    }
+    let wait = wait_given(given)?;
+    Ok(TillTask::Deliver {
+        ledger,
+        delivery,
+        wait,
+    })
 }
 
 // The task of `cancel` with the arguments that follow it.

@@ -2,75 +2,72 @@
 
 use crate::support::asking::{asks_for, printer};
 use escpos_arguments::asks_version;
+use escpos_command::LineWidth;
 use escpos_jobs::address::Address;
 use escpos_jobs::emulate::ONLINE;
+use escpos_jobs::form::Form;
 use escpos_jobs::task::{NoTask, Task};
 use escpos_printer::Condition;
+use escpos_receipt::ReceiptOptions;
 use std::alloc::Global;
 use std::net::{IpAddr, Ipv4Addr, Ipv6Addr, SocketAddr, SocketAddrV4};
 use std::process::Abort;
 
-// Words, and what they ask for.
-type Asked = (&'static [&'static str], Result<Task, NoTask>);
-
-const ASKED: [Asked; 57] = [
-    (&["check"], Ok(Task::Check)),
-    (&["render"], Ok(Task::Render)),
-    (&["draw"], Ok(Task::Draw)),
-    (&["encode"], Ok(Task::Encode)),
-    (&["check", "--raw"], Ok(Task::CheckRaw)),
-    (&["render", "--raw"], Ok(Task::RenderRaw)),
-    (&["draw", "--raw"], Ok(Task::DrawRaw)),
-    (&["encode", "--raw"], Ok(Task::EncodeRaw)),
-    (&["check", "--raw", "--help"], Err(NoTask::Help)),
-    (&["--raw", "check"], Err(NoTask::Usage)),
-    (&["check", "--raw", "--raw"], Err(NoTask::Usage)),
-    (&["check", "--raw=true"], Err(NoTask::Usage)),
-    (&["check", "--raw", "extra"], Err(NoTask::Usage)),
-    (&["check", "-raw"], Err(NoTask::Usage)),
-    (&["play", "--raw"], Err(NoTask::Usage)),
-    (&["loop"], Ok(Task::Loop)),
-    (&["help"], Err(NoTask::Help)),
-    (&["--help"], Err(NoTask::Help)),
-    (&["-h"], Err(NoTask::Help)),
-    (&["check", "--help"], Err(NoTask::Help)),
-    (&["render", "--help"], Err(NoTask::Help)),
-    (&["draw", "--help"], Err(NoTask::Help)),
-    (&["draw", "extra"], Err(NoTask::Usage)),
-    (&["encode", "--help"], Err(NoTask::Help)),
-    (&["encode", "-h"], Err(NoTask::Help)),
-    (&["emulate", "--help"], Err(NoTask::Help)),
-    (&["emulate", "-h"], Err(NoTask::Help)),
-    (&["emulate", "127.0.0.1:80", "-h"], Err(NoTask::Help)),
-    (&["send", "--help"], Err(NoTask::Help)),
-    (&["send", "-h"], Err(NoTask::Help)),
-    (&["send", "--first", "0", "--help"], Err(NoTask::Help)),
-    (&["status", "--help"], Err(NoTask::Help)),
-    (&["status", "-h"], Err(NoTask::Help)),
-    (&["status", "127.0.0.1:80", "-h"], Err(NoTask::Help)),
-    (&["loop", "--help"], Err(NoTask::Help)),
-    (&["loop", "-h"], Err(NoTask::Help)),
-    (&[], Err(NoTask::Usage)),
-    (&[""], Err(NoTask::Usage)),
-    (&["-"], Err(NoTask::Usage)),
-    (&["--"], Err(NoTask::Usage)),
-    (&["nosuch"], Err(NoTask::Usage)),
-    (&["Check"], Err(NoTask::Usage)),
-    (&["chec"], Err(NoTask::Usage)),
-    (&["--nosuch"], Err(NoTask::Usage)),
-    (&["-V"], Err(NoTask::Usage)),
-    (&["--version"], Err(NoTask::Usage)),
-    (&["check", "--nosuch"], Err(NoTask::Usage)),
-    (&["check", "extra"], Err(NoTask::Usage)),
-    (&["encode", "check"], Err(NoTask::Usage)),
-    (&["check", "check"], Err(NoTask::Usage)),
-    (&["check", "--"], Err(NoTask::Usage)),
-    (&["check", "help"], Err(NoTask::Usage)),
-    (&["loop", "extra"], Err(NoTask::Usage)),
-    (&["loop", "127.0.0.1:80"], Err(NoTask::Usage)),
-    (&["loop", "--links", "3"], Err(NoTask::Usage)),
-    (&["loop", "--"], Err(NoTask::Usage)),
-    (&["Loop"], Err(NoTask::Usage)),
+// Words that name no task, and why.
+const NO_TASKS: [(&'static [&'static str], NoTask); 53] = [
+    (&["check", "--raw", "--help"], NoTask::Help),
+    (&["--raw", "check"], NoTask::Usage),
+    (&["check", "--raw", "--raw"], NoTask::Usage),
+    (&["check", "--raw=true"], NoTask::Usage),
+    (&["check", "--raw", "extra"], NoTask::Usage),
+    (&["check", "-raw"], NoTask::Usage),
+    (&["play", "--raw"], NoTask::Usage),
+    (&["help"], NoTask::Help),
+    (&["--help"], NoTask::Help),
+    (&["-h"], NoTask::Help),
+    (&["check", "--help"], NoTask::Help),
+    (&["render", "--help"], NoTask::Help),
+    (&["draw", "--help"], NoTask::Help),
+    (&["draw", "extra"], NoTask::Usage),
+    (&["encode", "--help"], NoTask::Help),
+    (&["encode", "-h"], NoTask::Help),
+    (&["emulate", "--help"], NoTask::Help),
+    (&["emulate", "-h"], NoTask::Help),
+    (&["emulate", "127.0.0.1:80", "-h"], NoTask::Help),
+    (&["send", "--help"], NoTask::Help),
+    (&["send", "-h"], NoTask::Help),
+    (&["send", "--first", "0", "--help"], NoTask::Help),
+    (&["status", "--help"], NoTask::Help),
+    (&["status", "-h"], NoTask::Help),
+    (&["status", "127.0.0.1:80", "-h"], NoTask::Help),
+    (&["loop", "--help"], NoTask::Help),
+    (&["loop", "-h"], NoTask::Help),
+    (&[], NoTask::Usage),
+    (&[""], NoTask::Usage),
+    (&["-"], NoTask::Usage),
+    (&["--"], NoTask::Usage),
+    (&["nosuch"], NoTask::Usage),
+    (&["Check"], NoTask::Usage),
+    (&["chec"], NoTask::Usage),
+    (&["--nosuch"], NoTask::Usage),
+    (&["-V"], NoTask::Usage),
+    (&["--version"], NoTask::Usage),
+    (&["check", "--nosuch"], NoTask::Usage),
+    (&["check", "extra"], NoTask::Usage),
+    (&["encode", "check"], NoTask::Usage),
+    (&["check", "check"], NoTask::Usage),
+    (&["check", "--"], NoTask::Usage),
+    (&["check", "help"], NoTask::Usage),
+    (&["loop", "extra"], NoTask::Usage),
+    (&["loop", "127.0.0.1:80"], NoTask::Usage),
+    (&["loop", "--links", "3"], NoTask::Usage),
+    (&["loop", "--"], NoTask::Usage),
+    (&["Loop"], NoTask::Usage),
+    (&["render", "--"], NoTask::Usage),
+    (&["draw", "--"], NoTask::Usage),
+    (&["encode", "--"], NoTask::Usage),
+    (&["play", "--"], NoTask::Usage),
+    (&["help", "--"], NoTask::Usage),
 ];
 
 // What a command and what follows it ask for.
@@ -87,10 +84,31 @@ fn asks_for_command<'a>(
     asks_for(rt, alloc, arguments.as_slice(), asked);
 }
 
+// A name and what follows it ask for this of a stream in this form, for lines of the usual width.
+fn names(rt: &impl Abort, alloc: Global, form: Form, given: &[&str]) {
+    let width = LineWidth::usual();
+    let options = ReceiptOptions::usual();
+    let rows = [
+        ("check", Task::Check { form }),
+        ("render", Task::Render { form, width }),
+        ("draw", Task::Draw { form, width }),
+        ("encode", Task::Encode { form, options }),
+    ];
+    for (name, task) in rows {
+        asks_for_command(rt, alloc, name, given, Ok(task));
+    }
+}
+
 #[test]
 fn arguments_name_tasks(rt: HostRuntime) {
-    for (arguments, asked) in &ASKED {
-        asks_for(&rt, rt.alloc(), arguments, *asked);
+    let width = LineWidth::usual();
+    names(&rt, rt.alloc(), Form::Hexadecimal, &[]);
+    names(&rt, rt.alloc(), Form::Raw, &["--raw"]);
+    names(&rt, rt.alloc(), Form::Raw, &["--raw", "--"]);
+    asks_for(&rt, rt.alloc(), &["play"], Ok(Task::Play));
+    asks_for(&rt, rt.alloc(), &["loop"], Ok(Task::Loop { width }));
+    for (arguments, why) in &NO_TASKS {
+        asks_for(&rt, rt.alloc(), arguments, Err(*why));
     }
     for arguments in [["check"; 4].as_slice(), &["check"; 100], &["--"; 100]] {
         asks_for(&rt, rt.alloc(), arguments, Err(NoTask::Usage));
@@ -111,13 +129,20 @@ const EMULATE_ARGUMENTS: [(&'static [&'static str], u32); 10] = [
     (&["127.0.0.1:9100", "--links", "007"], 7),
 ];
 
+fn emulate_task(address: Address, links: Option<u32>, condition: Condition) -> Task {
+    Task::Emulate {
+        address,
+        links,
+        condition,
+        width: LineWidth::usual(),
+        file: None,
+    }
+}
+
 #[test]
 fn arguments_of_emulate(rt: HostRuntime) {
     for (given, links) in &EMULATE_ARGUMENTS {
-        let asked = Ok(Task::Emulate {
-            address: printer(),
-            links: *links,
-        });
+        let asked = Ok(emulate_task(printer(), Some(*links), ONLINE));
         asks_for_command(&rt, rt.alloc(), "emulate", given, asked);
     }
 }
@@ -147,14 +172,20 @@ const SEND_ARGUMENTS: [(&'static [&'static str], u32, u32); 13] = [
     (&["127.0.0.1:9100", "--first", "08"], 8, 3),
 ];
 
+fn send_task(address: Address, first: u32, openings: u32, wait: Option<u32>) -> Task {
+    Task::Send {
+        address,
+        first,
+        openings,
+        wait,
+        options: ReceiptOptions::usual(),
+    }
+}
+
 #[test]
 fn arguments_of_send(rt: HostRuntime) {
     for (given, first, openings) in &SEND_ARGUMENTS {
-        let asked = Ok(Task::Send {
-            address: printer(),
-            first: *first,
-            openings: *openings,
-        });
+        let asked = Ok(send_task(printer(), *first, *openings, None));
         asks_for_command(&rt, rt.alloc(), "send", given, asked);
     }
 }
@@ -207,19 +238,8 @@ const CONDITIONS: [(&'static [&'static str], Option<u32>, Condition); 8] = [
 #[test]
 fn conditions_of_emulate(rt: HostRuntime) {
     for (given, links, condition) in &CONDITIONS {
-        let condition = *condition;
-        let asked = match *links {
-            Some(links) => Task::EmulateIn {
-                address: printer(),
-                links,
-                condition,
-            },
-            None => Task::Follow {
-                address: printer(),
-                condition,
-            },
-        };
-        asks_for_command(&rt, rt.alloc(), "emulate", given, Ok(asked));
+        let asked = Ok(emulate_task(printer(), *links, *condition));
+        asks_for_command(&rt, rt.alloc(), "emulate", given, asked);
     }
 }
 
@@ -249,24 +269,11 @@ const WAITS: [(&'static [&'static str], Option<(u32, u32)>, u32); 6] = [
 #[test]
 fn waits_of_send_and_status(rt: HostRuntime) {
     for (given, marks, seconds) in &WAITS {
-        let wait = *seconds;
+        let wait = Some(*seconds);
+        let address = printer();
         let (name, asked) = match *marks {
-            Some((first, openings)) => (
-                "send",
-                Task::SendWithin {
-                    address: printer(),
-                    first,
-                    openings,
-                    wait,
-                },
-            ),
-            None => (
-                "status",
-                Task::Status {
-                    address: printer(),
-                    wait: Some(wait),
-                },
-            ),
+            Some((first, openings)) => ("send", send_task(address, first, openings, wait)),
+            None => ("status", Task::Status { address, wait }),
         };
         asks_for_command(&rt, rt.alloc(), name, given, Ok(asked));
     }
@@ -466,7 +473,7 @@ const NO_ADDRESSES: [&str; 47] = [
 // A text is this address, for `emulate`, or none.
 fn emulates_at(rt: &impl Abort, alloc: Global, text: &str, wanted: Option<Address>) {
     let asked = match wanted {
-        Some(address) => Ok(Task::Emulate { address, links: 1 }),
+        Some(address) => Ok(emulate_task(address, Some(1), ONLINE)),
         None => Err(NoTask::Usage),
     };
     asks_for_command(rt, alloc, "emulate", &[text], asked);
@@ -475,11 +482,7 @@ fn emulates_at(rt: &impl Abort, alloc: Global, text: &str, wanted: Option<Addres
 // The same for `send`.
 fn sends_at(rt: &impl Abort, alloc: Global, text: &str, wanted: Option<Address>) {
     let asked = match wanted {
-        Some(address) => Ok(Task::Send {
-            address,
-            first: 0,
-            openings: 3,
-        }),
+        Some(address) => Ok(send_task(address, 0, 3, None)),
         None => Err(NoTask::Usage),
     };
     asks_for_command(rt, alloc, "send", &[text, "--first", "0"], asked);
@@ -522,7 +525,7 @@ fn is_name(text: &str) -> bool {
 }
 
 #[test]
-fn names(rt: HostRuntime) {
+fn named_printers(rt: HostRuntime) {
     for text in &NAMED {
         assert!(&rt; is_name(text));
         emulates_at(&rt, rt.alloc(), text, Address::of_text(text));

@@ -5,6 +5,7 @@ use escpos_arguments::task_of;
 use escpos_command::LineWidth;
 use escpos_jobs::address::AddressText;
 use escpos_jobs::emulate::ONLINE;
+use escpos_jobs::form::Form;
 use escpos_jobs::task::{NoTask, Task};
 use escpos_printer::Condition;
 use escpos_receipt::ReceiptOptions;
@@ -19,85 +20,82 @@ fn wide(rt: &impl Abort, dots: u16) -> LineWidth {
 #[test]
 fn widths_of_streams(rt: HostRuntime) {
     let width = wide(&rt, 384);
+    let (hexadecimal, raw) = (Form::Hexadecimal, Form::Raw);
+    let render = Task::Render {
+        form: hexadecimal,
+        width,
+    };
+    let raw_render = Task::Render { form: raw, width };
+    let raw_draw = Task::Draw { form: raw, width };
+    let draw = Task::Draw {
+        form: hexadecimal,
+        width,
+    };
     let rows: [(&[&str], Task); 9] = [
-        (&["render", "--width", "384"], Task::RenderAt { width }),
-        (&["render", "--width=384"], Task::RenderAt { width }),
-        (&["render", "--width", "0384"], Task::RenderAt { width }),
-        (
-            &["render", "--raw", "--width", "384"],
-            Task::RenderRawAt { width },
-        ),
-        (
-            &["render", "--width", "384", "--raw"],
-            Task::RenderRawAt { width },
-        ),
-        (&["draw", "--width", "384"], Task::DrawAt { width }),
-        (
-            &["draw", "--width", "384", "--raw"],
-            Task::DrawRawAt { width },
-        ),
-        (&["draw", "--raw", "--width=384"], Task::DrawRawAt { width }),
-        (&["loop", "--width", "384"], Task::LoopAt { width }),
+        (&["render", "--width", "384"], render),
+        (&["render", "--width=384"], render),
+        (&["render", "--width", "0384"], render),
+        (&["render", "--raw", "--width", "384"], raw_render),
+        (&["render", "--width", "384", "--raw"], raw_render),
+        (&["draw", "--width", "384"], draw),
+        (&["draw", "--width", "384", "--raw"], raw_draw),
+        (&["draw", "--raw", "--width=384"], raw_draw),
+        (&["loop", "--width", "384"], Task::Loop { width }),
     ];
     for (words, task) in rows {
         asks_for(&rt, rt.alloc(), words, Ok(task));
     }
-    for (words, dots) in [
-        (["render", "--width", "1"], 1),
-        (["render", "--width", "512"], 512),
-        (["render", "--width", "1024"], 1024),
-    ] {
-        let width = wide(&rt, dots);
-        asks_for(&rt, rt.alloc(), &words, Ok(Task::RenderAt { width }));
+}
+
+// The least width, the greatest, and the usual one, which is also that of `render` alone; `--` may follow a width.
+#[test]
+fn widths_of_render(rt: HostRuntime) {
+    let rows: [(&[&str], u16); 5] = [
+        (&["render", "--width", "1"], 1),
+        (&["render", "--width", "512"], 512),
+        (&["render"], 512),
+        (&["render", "--width", "512", "--"], 512),
+        (&["render", "--width", "1024"], 1024),
+    ];
+    for (words, dots) in rows {
+        let task = Task::Render {
+            form: Form::Hexadecimal,
+            width: wide(&rt, dots),
+        };
+        asks_for(&rt, rt.alloc(), words, Ok(task));
     }
 }
 
 #[test]
 fn widths_of_emulate(rt: HostRuntime) {
-    let width = wide(&rt, 576);
     let open = Condition {
         cover_open: true,
         ..ONLINE
     };
-    for (words, links, condition) in [
+    let rows: [(&[&str], Option<u32>, Condition); 5] = [
         (
-            ["--width", "576", "--links=1", "--condition=000"],
-            1,
+            &["--width", "576", "--links=1", "--condition=000"],
+            Some(1),
             ONLINE,
         ),
-        (["--links", "3", "--width", "576"], 3, ONLINE),
-        (["--condition", "100", "--width", "576"], 1, open),
-    ] {
-        let [a, b, c, d] = words;
-        let task = Task::EmulateAt {
+        (&["--links", "3", "--width", "576"], Some(3), ONLINE),
+        (&["--condition", "100", "--width", "576"], Some(1), open),
+        (
+            &["--follow", "--width=576", "--condition=000"],
+            None,
+            ONLINE,
+        ),
+        (&["--width=576", "--condition=100", "--follow"], None, open),
+    ];
+    for (words, links, condition) in rows {
+        let task = Task::Emulate {
             address: printer(),
             links,
             condition,
-            width,
+            width: wide(&rt, 576),
+            file: None,
         };
-        asks_for(
-            &rt,
-            rt.alloc(),
-            &["emulate", "127.0.0.1:9100", a, b, c, d],
-            Ok(task),
-        );
-    }
-    for (words, condition) in [
-        (["--follow", "--width=576", "--condition=000"], ONLINE),
-        (["--width=576", "--condition=100", "--follow"], open),
-    ] {
-        let [a, b, c] = words;
-        let task = Task::FollowAt {
-            address: printer(),
-            condition,
-            width,
-        };
-        asks_for(
-            &rt,
-            rt.alloc(),
-            &["emulate", "127.0.0.1:9100", a, b, c],
-            Ok(task),
-        );
+        asks_after(&rt, rt.alloc(), words, Ok(task));
     }
 }
 
@@ -152,12 +150,12 @@ fn files_of_emulate(rt: HostRuntime) {
     ];
     let file = AddressText::of("paper").expect(&rt, "a path");
     for (words, links, condition, width) in rows {
-        let task = Task::EmulateBy {
+        let task = Task::Emulate {
             address: printer(),
             links,
             condition,
             width,
-            file,
+            file: Some(file),
         };
         asks_after(&rt, rt.alloc(), words, Ok(task));
     }
@@ -202,12 +200,12 @@ fn files_that_ask_for_nothing(rt: HostRuntime) {
     let long = str::from_utf8(&bytes).expect(&rt, "text");
     asks_with_path(&rt, rt.alloc(), long, Err(NoTask::Usage));
     let longest = str::from_utf8(&bytes[1..]).expect(&rt, "text");
-    let task = Task::EmulateBy {
+    let task = Task::Emulate {
         address: printer(),
         links: Some(1),
         condition: ONLINE,
         width: LineWidth::usual(),
-        file: AddressText::of(longest).expect(&rt, "a path"),
+        file: Some(AddressText::of(longest).expect(&rt, "a path")),
     };
     asks_with_path(&rt, rt.alloc(), longest, Ok(task));
 }
@@ -252,14 +250,14 @@ fn widths_that_ask_for_nothing(rt: HostRuntime) {
 
 #[test]
 fn words_for_a_width_of_receipts(rt: HostRuntime) {
-    let rows: [(&[&str], bool); 3] = [
-        (&["encode", "--width", "144"], false),
-        (&["encode", "--width=144", "--raw"], true),
-        (&["encode", "--raw", "--width", "144"], true),
+    let rows: [(&[&str], Form); 3] = [
+        (&["encode", "--width", "144"], Form::Hexadecimal),
+        (&["encode", "--width=144", "--raw"], Form::Raw),
+        (&["encode", "--raw", "--width", "144"], Form::Raw),
     ];
-    for (words, raw) in rows {
-        let task = Task::EncodeWith {
-            raw,
+    for (words, form) in rows {
+        let task = Task::Encode {
+            form,
             options: ReceiptOptions {
                 width: wide(&rt, 144),
                 replacement: None,
@@ -269,31 +267,34 @@ fn words_for_a_width_of_receipts(rt: HostRuntime) {
     }
 }
 
-fn plain(raw: bool) -> Task {
-    Task::RenderText {
-        raw,
-        width: LineWidth::usual(),
-    }
-}
-
 #[test]
 fn words_for_plain_text(rt: HostRuntime) {
-    let width = LineWidth::new(384).expect(&rt, "a width");
-    let rows: [(&[&str], Task); 6] = [
-        (&["render", "--text"], plain(false)),
-        (&["render", "--text", "--raw"], plain(true)),
-        (&["render", "--raw", "--text"], plain(true)),
+    let rows: [(&[&str], Form, u16); 7] = [
+        (&["render", "--text"], Form::Hexadecimal, 512),
+        (&["render", "--text", "--"], Form::Hexadecimal, 512),
+        (&["render", "--text", "--raw"], Form::Raw, 512),
+        (&["render", "--raw", "--text"], Form::Raw, 512),
         (
             &["render", "--text", "--width", "384"],
-            Task::RenderText { raw: false, width },
+            Form::Hexadecimal,
+            384,
         ),
         (
             &["render", "--width=384", "--raw", "--text"],
-            Task::RenderText { raw: true, width },
+            Form::Raw,
+            384,
         ),
-        (&["render", "--width", "512", "--text"], plain(false)),
+        (
+            &["render", "--width", "512", "--text"],
+            Form::Hexadecimal,
+            512,
+        ),
     ];
-    for (words, task) in rows {
+    for (words, form, dots) in rows {
+        let task = Task::RenderText {
+            form,
+            width: wide(&rt, dots),
+        };
         asks_for(&rt, rt.alloc(), words, Ok(task));
     }
     for words in [
@@ -315,21 +316,16 @@ fn replacing(rt: &impl Abort, byte: u8) -> ReceiptOptions {
 
 #[test]
 fn words_for_a_replacement(rt: HostRuntime) {
-    let rows: [(&[&str], bool, u8); 5] = [
-        (&["encode", "--replace", "?"], false, b'?'),
-        (&["encode", "--raw", "--replace", "?"], true, b'?'),
-        (&["encode", "--replace=?", "--raw"], true, b'?'),
-        (&["encode", "--replace=-"], false, b'-'),
-        (&["encode", "--replace", " "], false, b' '),
+    let rows: [(&[&str], Form, u8); 5] = [
+        (&["encode", "--replace", "?"], Form::Hexadecimal, b'?'),
+        (&["encode", "--raw", "--replace", "?"], Form::Raw, b'?'),
+        (&["encode", "--replace=?", "--raw"], Form::Raw, b'?'),
+        (&["encode", "--replace=-"], Form::Hexadecimal, b'-'),
+        (&["encode", "--replace", " "], Form::Hexadecimal, b' '),
     ];
-    for (words, raw, byte) in rows {
+    for (words, form, byte) in rows {
         let options = replacing(&rt, byte);
-        asks_for(
-            &rt,
-            rt.alloc(),
-            words,
-            Ok(Task::EncodeWith { raw, options }),
-        );
+        asks_for(&rt, rt.alloc(), words, Ok(Task::Encode { form, options }));
     }
     let words: [&[&str]; 7] = [
         &["encode", "--replace"],
@@ -369,7 +365,7 @@ fn words_for_a_replacement_of_send(rt: HostRuntime) {
         ),
     ];
     for (words, openings, wait) in rows {
-        let task = Task::SendWith {
+        let task = Task::Send {
             address: printer(),
             first: 4,
             openings,
@@ -389,8 +385,9 @@ fn image_at(rt: &impl Abort, dots: u16, threshold: Option<u8>) -> Task {
 
 #[test]
 fn words_for_an_image(rt: HostRuntime) {
-    let rows: [(&[&str], u16, Option<u8>); 6] = [
+    let rows: [(&[&str], u16, Option<u8>); 7] = [
         (&["image"], 512, None),
+        (&["image", "--"], 512, None),
         (&["image", "--width", "384"], 384, None),
         (&["image", "--threshold=128"], 512, Some(128)),
         (&["image", "--threshold", "1", "--width", "1"], 1, Some(1)),

@@ -53,6 +53,7 @@ fn deliveries(rt: HostRuntime) {
             *openings,
             *patience,
             *has_copy,
+            None,
         );
         asks_for_delivery(&rt, rt.alloc(), given, wanted);
     }
@@ -69,13 +70,13 @@ const WAITING: [(&'static [&'static str], u32, u32, bool, u32); 4] = [
 #[test]
 fn deliveries_that_wait(rt: HostRuntime) {
     for (given, openings, patience, has_copy, seconds) in &WAITING {
-        let wanted = Plain::Within(
+        let wanted = Plain::Deliver(
             "till",
             Some(printer_address()),
             *openings,
             *patience,
             *has_copy,
-            *seconds,
+            Some(*seconds),
         );
         asks_for_delivery(&rt, rt.alloc(), given, wanted);
     }

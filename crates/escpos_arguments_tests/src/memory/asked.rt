@@ -17,7 +17,7 @@ fn asks_at_last(rt: &impl Abort, alloc: Global, words: &[&str], wanted: Result<P
 
 #[test]
 fn till_task_of_refused(rt: HostRuntime) {
-    let deliver = Plain::Deliver("till", Some(printer_address()), 3, 600, true);
+    let deliver = Plain::Deliver("till", Some(printer_address()), 3, 600, true, None);
     let rows: [(&[&str], Result<Plain, NoTask>); 5] = [
         (
             &["queue", "till", "--replace", "?"],

@@ -2,7 +2,11 @@
 
 use crate::support::asking::printer;
 use escpos_arguments::task_of;
+use escpos_command::LineWidth;
+use escpos_jobs::emulate::ONLINE;
+use escpos_jobs::form::Form;
 use escpos_jobs::task::{NoTask, Task};
+use escpos_receipt::ReceiptOptions;
 use std::alloc::Global;
 use std::process::Abort;
 
@@ -18,12 +22,18 @@ fn asks_at_last(rt: &impl Abort, alloc: Global, arguments: &[&str], wanted: Resu
 
 #[test]
 fn task_of_refused(rt: HostRuntime) {
-    asks_at_last(&rt, rt.alloc(), &["check"], Ok(Task::Check));
+    let check = Task::Check {
+        form: Form::Hexadecimal,
+    };
+    asks_at_last(&rt, rt.alloc(), &["check"], Ok(check));
     asks_at_last(&rt, rt.alloc(), &["encode", "--help"], Err(NoTask::Help));
     asks_at_last(&rt, rt.alloc(), &["chec"], Err(NoTask::Usage));
     let wanted = Task::Emulate {
         address: printer(),
-        links: 3,
+        links: Some(3),
+        condition: ONLINE,
+        width: LineWidth::usual(),
+        file: None,
     };
     let arguments = ["emulate", "127.0.0.1:9100", "--links", "3"];
     asks_at_last(&rt, rt.alloc(), &arguments, Ok(wanted));
@@ -31,6 +41,8 @@ fn task_of_refused(rt: HostRuntime) {
         address: printer(),
         first: 7,
         openings: 3,
+        wait: None,
+        options: ReceiptOptions::usual(),
     };
     let arguments = ["send", "127.0.0.1:9100", "--first", "7"];
     asks_at_last(&rt, rt.alloc(), &arguments, Ok(wanted));

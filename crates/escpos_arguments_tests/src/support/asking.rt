@@ -25,8 +25,7 @@ pub enum Plain<'a> {
     // with a key: whether it is a stream
     Keyed(&'a str, bool),
     Again(&'a str, usize),
-    Deliver(&'a str, Option<SocketAddrV4>, u32, u32, bool),
-    Within(&'a str, Option<SocketAddrV4>, u32, u32, bool, u32),
+    Deliver(&'a str, Option<SocketAddrV4>, u32, u32, bool, Option<u32>),
     Cancel(&'a str, usize),
     Renew(&'a str, &'a str),
     List(&'a str, Option<u32>),
@@ -66,18 +65,11 @@ fn plain_of<'a>(task: TillTask<'a>) -> Plain<'a> {
         } => Plain::Raw(ledger.text(), width.dots()),
         TillTask::QueueRaw { ledger, .. } => Plain::Keyed(ledger.text(), true),
         TillTask::QueueAgain { ledger, number } => Plain::Again(ledger.text(), number.get()),
-        TillTask::Deliver { ledger, delivery } => Plain::Deliver(
-            ledger.text(),
-            v4_of(&delivery.address),
-            delivery.openings,
-            delivery.patience,
-            delivery.copy.is_some(),
-        ),
-        TillTask::DeliverWithin {
+        TillTask::Deliver {
             ledger,
             delivery,
             wait,
-        } => Plain::Within(
+        } => Plain::Deliver(
             ledger.text(),
             v4_of(&delivery.address),
             delivery.openings,

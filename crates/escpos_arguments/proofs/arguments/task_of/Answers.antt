@@ -1,19 +1,20 @@
-use Rattle.std.proofs.Common.{◌≡◌, ◌∙◌, Some, ap, sym, subst, inl, inr, map, length, Err, codes}
+use Rattle.std.proofs.Common.{◌≡◌, ◌∙◌, List, Some, ap, sym, subst, inl, inr, map, length, Err, codes}
 use Rattle.std.specs.Prelude.{option_map}
 use Rattle.std.proofs.lemmas.Result.{IfOk-weaker}
 use Rattle.std.proofs.lemmas.List.{length-map}
-use Rattle.clap.specs.Words.{fault_of, found_of, rows_of}
-use Rattle.escpos_arguments.specs.Arguments.{Asks, command_words, name_of}
-use Rattle.escpos_arguments.proofs.TaskWords.{help_is_among, help_met, help_passes, is_bare, is_found, is_help, is_word, met_by, none_found, plain_words, refused_for_help, refused_for_memory, same_name, task_met, task_passes}
+use Rattle.clap.specs.Words.{Text, fault_of, found_of, rows_of, subcommand_of}
+use Rattle.escpos_arguments.specs.Arguments.{Asks, StandsAlone, command_words}
+use Rattle.escpos_arguments.proofs.TaskWords.{asked_alone, help_is_among, help_met, help_passes, is_found, is_help, is_word, met_by, none_found, one_word, refused_for_help, refused_for_memory, same_name, stands_alone}
 use Rattle.escpos_jobs.specs.declared.task.NoTask.TheVariants.{Help}
 use Rattle.escpos_arguments.proofs.arguments.task_of.Goals as goal
 
 pub returns-in-Err-clause-named : goal.returns-in-Err-clause-named
-returns-in-Err-clause-named g c = λ task alone e.
-    inr (ap Err (refused_for_memory _ c.in-Err.refusal _ (ap (fault_of command_words) e ∙ task_passes task alone) c.in-Err.ensures.refused c.no_task.ensures))
+returns-in-Err-clause-named g c = λ bare task is e.
+    let asked = asked_alone bare task is in
+    inr (ap Err (refused_for_memory _ c.in-Err.refusal _ (ap (fault_of command_words) e ∙ asked.passes) c.in-Err.ensures.refused c.no_task.ensures))
 
 pub returns-in-Err-clause-taken : goal.returns-in-Err-clause-taken
-returns-in-Err-clause-taken g c = λ task valued passes asks ranges.
+returns-in-Err-clause-taken g c = λ task passes asks alone ranges.
     inr (ap Err (refused_for_memory _ c.in-Err.refusal _ passes c.in-Err.ensures.refused c.no_task.ensures))
 
 pub returns-in-Err-clause-help : goal.returns-in-Err-clause-help
@@ -45,25 +46,29 @@ returns-in-Some-clause-words g c =
     let name = c.in-Some.name.now in
     let rows = rows_of (found_of c.in-Some.given.now) in
     let found = is_found c.in-Ok.matches texts name rows c.in-Ok.ensures.found c.in-Some.ensures.name c.in-Some.ensures.rows in
-    plain_words c.task_asked.result texts name rows found c.task_asked.ensures.asks
-    (IfOk-weaker c.task_asked.result _ _ (λ task h alone. length-map _ _ ∙ h alone) c.task_asked.ensures.alone)
+    stands_alone c.task_asked.result texts name rows found
+    (IfOk-weaker c.task_asked.result _ _ (λ task h nothing. length-map _ _ ∙ h nothing) c.task_asked.ensures.alone)
 
 pub returns-in-Some-clause-named : goal.returns-in-Some-clause-named
-returns-in-Some-clause-named g c = λ task alone e.
+returns-in-Some-clause-named g c = λ bare task is e.
     let texts = map g.S.AsStr.text c.args.words.now in
     let name = c.in-Some.name.now in
     let rows = rows_of (found_of c.in-Some.given.now) in
     let found = is_found c.in-Ok.matches texts name rows c.in-Ok.ensures.found c.in-Some.ensures.name c.in-Some.ensures.rows in
-    inl (c.task_asked.ensures.named task alone (same_name texts name (name_of task) rows found (ap met_by e ∙ task_met task alone))
-    (sym (length-map _ _) ∙ ap length e) (is_bare task texts name rows alone found e))
+    let asked = asked_alone bare task is in
+    let asks = subst (λ (ts : List Text). Asks (subcommand_of command_words ts) task) (sym e) asked.asks in
+    let alone = subst (λ (ts : List Text). StandsAlone ts task) (sym e) asked.alone in
+    inl (c.task_asked.ensures.taken task (subst (λ o. Asks o task) (sym found) asks)
+    (λ nothing. sym (length-map _ _) ∙ one_word texts task name rows found alone nothing) asked.in_range)
 
 pub returns-in-Some-clause-taken : goal.returns-in-Some-clause-taken
-returns-in-Some-clause-taken g c = λ task valued passes asks ranges.
+returns-in-Some-clause-taken g c = λ task passes asks alone ranges.
     let texts = map g.S.AsStr.text c.args.words.now in
     let name = c.in-Some.name.now in
     let rows = rows_of (found_of c.in-Some.given.now) in
     let found = is_found c.in-Ok.matches texts name rows c.in-Ok.ensures.found c.in-Some.ensures.name c.in-Some.ensures.rows in
-    inl (c.task_asked.ensures.taken task valued (subst (λ o. Asks o task) (sym found) asks) ranges)
+    inl (c.task_asked.ensures.taken task (subst (λ o. Asks o task) (sym found) asks)
+    (λ nothing. sym (length-map _ _) ∙ one_word texts task name rows found alone nothing) ranges)
 
 pub returns-in-Some-clause-help : goal.returns-in-Some-clause-help
 returns-in-Some-clause-help g c = λ asks.
@@ -86,14 +91,14 @@ returns-in-Some-clause-help_only g c = λ e.
     inl (is_word texts (codes "help") (sym (ap (option_map (λ p. p.0)) found) ∙ ap Some h.0) (length-map _ _ ∙ h.1))
 
 pub returns-clause-named : goal.returns-clause-named
-returns-clause-named g c = λ task alone e.
+returns-clause-named g c = λ bare task is e.
     let texts = map g.S.AsStr.text c.args.words.now in
     let none = none_found c.in-Ok.matches texts c.in-Ok.ensures.found c.in-None.ensures.name in
-    let bad = sym (ap (option_map (λ p. p.0)) none) ∙ ap met_by e ∙ task_met task alone in
-    cc
+    let asked = asked_alone bare task is in
+    absurd (subst (λ o. Asks o task) none (subst (λ (ts : List Text). Asks (subcommand_of command_words ts) task) (sym e) asked.asks))
 
 pub returns-clause-taken : goal.returns-clause-taken
-returns-clause-taken g c = λ task valued passes asks ranges.
+returns-clause-taken g c = λ task passes asks alone ranges.
     let texts = map g.S.AsStr.text c.args.words.now in
     let none = none_found c.in-Ok.matches texts c.in-Ok.ensures.found c.in-None.ensures.name in
     absurd (subst (λ o. Asks o task) none asks)

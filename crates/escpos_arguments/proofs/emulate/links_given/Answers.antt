@@ -1,5 +1,5 @@
 use Rattle.clap.specs.Words.{found_of, rows_of}
-use Rattle.escpos_arguments.proofs.WidthValues.{links_refused}
+use Rattle.escpos_arguments.proofs.TaskValues.{links_refused}
 use Rattle.escpos_arguments.proofs.emulate.links_given.Goals as goal
 
 pub returns-in_err-number_given-clause-taken : goal.returns-in_err-number_given-clause-taken
