@@ -11,8 +11,7 @@ use crate::arguments::{LINKS, MOST_LINKS, address_of, count_of, has_flag, number
 use crate::width::width_or_usual;
 use clap::ArgMatches;
 use escpos_jobs::address::AddressText;
-use escpos_jobs::emulate::ONLINE;
-use escpos_jobs::script::condition_of;
+use escpos_jobs::condition::{ONLINE, condition_of};
 use escpos_jobs::task::{NoTask, Task};
 use escpos_printer::Condition;
 

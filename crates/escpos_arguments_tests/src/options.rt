@@ -4,7 +4,7 @@ use crate::support::asking::{asks_for, printer};
 use escpos_arguments::task_of;
 use escpos_command::LineWidth;
 use escpos_jobs::address::AddressText;
-use escpos_jobs::emulate::ONLINE;
+use escpos_jobs::condition::ONLINE;
 use escpos_jobs::form::Form;
 use escpos_jobs::task::{NoTask, Task};
 use escpos_printer::Condition;

@@ -7,8 +7,8 @@ ghost use Rattle.escpos_printer.specs.declared.condition.Condition.{Condition};
 ghost use Rattle.escpos_jobs.specs.Conditions.{condition_text};
 
 use crate::address::AddressText;
+use crate::condition::condition_of;
 use crate::printer_link::Printers;
-use crate::script::condition_of;
 use crate::watch::Conditions;
 use escpos_command::LF;
 use escpos_printer::Condition;

@@ -53,37 +53,8 @@ const LINE_BYTES: usize = 256;
 
 const _: () = prove!(LINE_BYTES == 256);
 
-/// The condition of a printer that is online and has paper.
-pub const ONLINE: Condition = Condition {
-    cover_open: false,
-    near_end: false,
-    paper_end: false,
-};
-
 /// Listens at `address`, and serves `links` links as `emulate_on` does. The status is also `Device` if it can't listen.
 pub fn emulate<N: Net<Stream = TcpStream, Listener = TcpListener>, W: ByteOut>(
-    net: &N,
-    alloc: Global,
-    address: Address,
-    links: u32,
-    output: &mut W,
-) -> Status
-    ensures never_usage { result ≢ Status.Usage }
-    ensures not_hidden { result ≢ Status.Device → ¬ IsTrue (W.failed output.old) → ¬ IsTrue (W.failed output.new) }
-{
-    emulate_in(
-        net,
-        alloc,
-        address,
-        links,
-        ONLINE,
-        LineWidth::usual(),
-        output,
-    )
-}
-
-// The same as a printer whose sensors say this, and that prints lines of this width.
-pub(crate) fn emulate_in<N: Net<Stream = TcpStream, Listener = TcpListener>, W: ByteOut>(
     net: &N,
     alloc: Global,
     address: Address,
@@ -96,31 +67,18 @@ pub(crate) fn emulate_in<N: Net<Stream = TcpStream, Listener = TcpListener>, W: 
     ensures not_hidden { result ≢ Status.Device → ¬ IsTrue (W.failed output.old) → ¬ IsTrue (W.failed output.new) }
 {
     match address.listen(net) {
-        Ok(listener) => emulate_in_on(alloc, &listener, links, condition, width, output),
+        Ok(listener) => emulate_on(alloc, &listener, links, condition, width, output),
         Err(_) => Status::Device,
     }
 }
 
-/// Serves `links` links of `listener`, one after another, as one printer that is online and prints lines of 512 dots; each is read up to 16,777,216
-/// bytes. Prints a line when a link has ended, `link I read R consumed C written W END`, and the paper at the end.
+/// Serves `links` links of `listener`, one after another, as one printer whose sensors say this and that prints lines of this width; each is read
+/// up to 16,777,216 bytes. Prints a line when a link has ended, `link I read R consumed C written W END`, and the paper at the end.
 ///
 /// The status is `Device` if a link can't be accepted or `output` has failed. If a link ends because memory ran out, no
 /// other is served: the paper follows, then the line `memory`, and the status is `Memory`. After any other end the next
 /// link is served, and the status is `Good`.
 pub fn emulate_on<W: ByteOut>(
-    alloc: Global,
-    listener: &TcpListener,
-    links: u32,
-    output: &mut W,
-) -> Status
-    ensures never_usage { result ≢ Status.Usage }
-    ensures not_hidden { result ≢ Status.Device → ¬ IsTrue (W.failed output.old) → ¬ IsTrue (W.failed output.new) }
-{
-    emulate_in_on(alloc, listener, links, ONLINE, LineWidth::usual(), output)
-}
-
-// The same as a printer whose sensors say this, and that prints lines of this width.
-fn emulate_in_on<W: ByteOut>(
     alloc: Global,
     listener: &TcpListener,
     links: u32,
@@ -187,8 +145,8 @@ fn serve_links<C: Conditions, W: ByteOut>(
     Status::Good
 }
 
-// Listens at `address`, and serves links as `follow_on` does. The status is also `Device` if it can't listen.
-pub(crate) fn follow<N: Net<Stream = TcpStream, Listener = TcpListener>, W: ByteOut>(
+/// Listens at `address`, and serves links as `follow_on` does. The status is also `Device` if it can't listen.
+pub fn follow<N: Net<Stream = TcpStream, Listener = TcpListener>, W: ByteOut>(
     net: &N,
     alloc: Global,
     address: Address,

@@ -10,6 +10,9 @@ use escpos_io::{ByteOut, put_all};
 /// What is printed last when memory runs out.
 pub const MEMORY: &[u8] = b"memory\n";
 
+/// What is printed if there is no connection.
+pub const NO_LINK: &[u8] = b"no link\n";
+
 /// Prints a text. Returns the status that is given, or `Device` if `output` has failed: no other status ever hides a
 /// failure.
 pub fn say<W: ByteOut>(text: &[u8], output: &mut W, status: Status) -> Status

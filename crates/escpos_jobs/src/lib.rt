@@ -15,6 +15,7 @@
 pub mod address;
 mod byte_form;
 pub mod check;
+pub mod condition;
 pub mod condition_file;
 pub mod device_file;
 pub mod draw;

@@ -5,10 +5,10 @@ ghost use Rattle.escpos_jobs.specs.declared.input.TheConstants.{INPUT_LIMIT};
 ghost use Rattle.escpos_jobs.specs.Broken.{broken_line, broken_status};
 ghost use Rattle.escpos_jobs.specs.Ending.{Tells, job_end};
 
-use crate::emulate::ONLINE;
-use crate::ending::{MEMORY, say};
+use crate::condition::ONLINE;
+use crate::ending::{MEMORY, NO_LINK, say};
 use crate::receipt_input::{read_receipt, refuse_input};
-use crate::send::{NO_LINK, is_memory_fault};
+use crate::send::is_memory_fault;
 use crate::status::Status;
 use escpos_command::{LF, LineWidth};
 use escpos_host::{Heard, Host, HostError, HostEvent, Receipt, SendFault};

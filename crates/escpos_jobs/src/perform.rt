@@ -18,7 +18,7 @@ use crate::address::{Address, AddressText};
 use crate::check::check;
 use crate::condition_file::ConditionFile;
 use crate::draw::draw;
-use crate::emulate::{emulate_in, follow};
+use crate::emulate::{emulate, follow};
 use crate::encode::encode;
 use crate::ending::{MEMORY, say};
 use crate::image::image;
@@ -154,7 +154,7 @@ fn emulate_as_asked<N: Printers + Net<Listener = TcpListener>, W: ByteOut>(
         return emulate_by(net, alloc, address, links, width, sensors, output);
     }
     match links {
-        Some(links) => emulate_in(net, alloc, address, links, condition, width, output),
+        Some(links) => emulate(net, alloc, address, links, condition, width, output),
         None => follow(net, alloc, address, condition, width, output),
     }
 }

@@ -10,7 +10,7 @@ ghost use Rattle.escpos_jobs.specs.Ending.{IsFair, PrintsText, job_end};
 ghost use Rattle.escpos_jobs.specs.Play.{IsNew, Plays, PlaysScript, closing_text};
 ghost use Rattle.escpos_jobs.specs.ScriptSteps.{LineGoes, LinesGo};
 
-use crate::emulate::ONLINE;
+use crate::condition::ONLINE;
 use crate::ending::{MEMORY, refuse, say};
 use crate::input::{INPUT_LIMIT, InputFault};
 use crate::refusal::append_refusal;

@@ -12,9 +12,8 @@ ghost use Rattle.escpos_jobs.specs.PrinterStatus.{ArePassedOver, AsksAndTells, F
 ghost use Rattle.escpos_jobs.specs.Send.{DevicesSay, devices, passed};
 
 use crate::address::Address;
-use crate::ending::say;
+use crate::ending::{NO_LINK, say};
 use crate::printer_link::{PrinterLink, Printers};
-use crate::send::NO_LINK;
 use crate::status::Status;
 use escpos_command::{Answer, LF};
 use escpos_host::{AnswerReader, NoAnswer, SendFault};

@@ -1,15 +1,13 @@
 //! Play scripts: a text whose lines each name an event on a line between a host and a printer.
 
-ghost use Rattle.std.specs.Prelude.{◌≡◌, ◌≢◌, ◌<◌, ◌≤◌, Bool, [], length, Some, IfSome};
-ghost use Rattle.escpos_printer.specs.declared.condition.Condition.{Condition};
-ghost use Rattle.escpos_jobs.specs.Conditions.{condition_text, sensor_digit};
+ghost use Rattle.std.specs.Prelude.{◌≡◌, ◌≢◌, ◌<◌, [], length};
 ghost use Rattle.escpos_jobs.specs.ScriptLines.{IsFirstLine};
 
+use crate::condition::condition_of;
 use crate::lines::SPACE;
 use escpos_command::{LF, StatusKind};
 use escpos_host::{JsonError, JsonFault, Receipt};
 use escpos_link::Event;
-use escpos_printer::Condition;
 use std::alloc::Global;
 
 /// Why a line of a script names no event.
@@ -117,31 +115,4 @@ fn number_in(text: &[u8]) -> Option<u32> {
 fn kind_of(text: &[u8]) -> Option<StatusKind> {
     let number = u8::try_from(number_in(text)?).ok()?;
     StatusKind::new(number)
-}
-
-/// What the sensors say, in a text: cover open, paper near its end, paper ended; a digit 0 or 1 each. `None` for other texts.
-pub fn condition_of(text: &[u8]) -> Option<Condition>
-    ensures read { IfSome result (λ condition. text.now ≡ condition_text condition) }
-    ensures given { (condition : Condition) → text.now ≡ condition_text condition → result ≡ Some condition }
-{
-    let [cover_open, near_end, paper_end] = text else {
-        return None;
-    };
-    Some(Condition {
-        cover_open: flag_of(*cover_open)?,
-        near_end: flag_of(*near_end)?,
-        paper_end: flag_of(*paper_end)?,
-    })
-}
-
-// A digit 0 or 1.
-fn flag_of(digit: u8) -> Option<bool>
-    ensures read { IfSome result (λ set. digit ≡ sensor_digit set) }
-    ensures given { (set : Bool) → digit ≡ sensor_digit set → result ≡ Some set }
-{
-    match digit {
-        b'0' => Some(false),
-        b'1' => Some(true),
-        _ => None,
-    }
 }

@@ -9,7 +9,7 @@ ghost use Rattle.escpos_jobs.specs.Ending.{job_end};
 ghost use Rattle.escpos_jobs.specs.Send.{SendsAndTells, devices, not_recorded_line, is_memory_fault, passed, recorded_line, sent_text, status_of_fault, status_of_sent};
 
 use crate::address::Address;
-use crate::ending::{MEMORY, say};
+use crate::ending::{MEMORY, NO_LINK, say};
 use crate::printer_link::{PrinterLink, Printers};
 use crate::receipt_input::{read_receipt, refuse_input};
 use crate::status::Status;
@@ -58,9 +58,6 @@ pub fn send_to<N: Printers, R: ByteIn, W: ByteOut>(
         Err(_) => say(NO_LINK, output, Status::Device),
     }
 }
-
-/// What is printed if there is no connection.
-pub const NO_LINK: &[u8] = b"no link\n";
 
 /// Sends a receipt over a link, and prints the result and the next mark's number, as `send_over` does. A wait for the printer lasts as
 /// long as the link allows.

@@ -22,8 +22,8 @@ use std::alloc::Global;
 use std::io::Read;
 use std::net::{Net, TcpListener, TcpStream};
 
-// Listens at `address`, and serves links as `emulate_by_on` does. The status is also `Device` if it can't listen.
-pub(crate) fn emulate_by<
+/// Listens at `address`, and serves links as `emulate_by_on` does. The status is also `Device` if it can't listen.
+pub fn emulate_by<
     N: Net<Stream = TcpStream, Listener = TcpListener>,
     C: Conditions + Drop,
     W: ByteOut,

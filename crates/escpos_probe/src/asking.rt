@@ -11,9 +11,8 @@ use crate::task::ProbeTask;
 use crate::told::{append_answer, append_premises};
 use escpos_io::{ByteIn, ByteOut, Device, Gather, Incoming, Outgoing, put_all};
 use escpos_jobs::address::Address;
-use escpos_jobs::ending::say;
+use escpos_jobs::ending::{NO_LINK, say};
 use escpos_jobs::printer_link::Printers;
-use escpos_jobs::send::NO_LINK;
 use escpos_jobs::status::Status;
 use escpos_jobs::wait::Within;
 

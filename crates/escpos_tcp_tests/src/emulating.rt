@@ -6,7 +6,8 @@ use crate::support::sockets::{
 };
 use escpos_command::LineWidth;
 use escpos_io::{MemoryIn, MemoryOut};
-use escpos_jobs::emulate::{ONLINE, emulate, emulate_on, follow_link, follow_on, serve_and_tell};
+use escpos_jobs::condition::ONLINE;
+use escpos_jobs::emulate::{emulate, emulate_on, follow_link, follow_on, serve_and_tell};
 use escpos_jobs::paper_text::PaperText;
 use escpos_jobs::printer_link::Printers;
 use escpos_jobs::status::Status;
@@ -39,7 +40,14 @@ fn emulates_in(
     wanted: (&[u8], Status),
 ) {
     let mut output = MemoryOut::new(room);
-    let ended = emulate_on(alloc, listener, links, &mut output);
+    let ended = emulate_on(
+        alloc,
+        listener,
+        links,
+        ONLINE,
+        LineWidth::usual(),
+        &mut output,
+    );
     is_outcome(rt, (output.written(), ended), wanted);
 }
 
@@ -105,7 +113,14 @@ fn client_resets(rt: HostRuntime) {
     let _good = connects_and_says(&rt, address, b"Yo\n");
     let mut room = [0; 512];
     let mut output = MemoryOut::new(&mut room);
-    let status = emulate_on(rt.alloc(), &listener, 2, &mut output);
+    let status = emulate_on(
+        rt.alloc(),
+        &listener,
+        2,
+        ONLINE,
+        LineWidth::usual(),
+        &mut output,
+    );
     is_reset(&rt, output.written(), status);
 }
 
@@ -117,7 +132,15 @@ fn is_in_use<N: Net<Stream = TcpStream, Listener = TcpListener> + Abort>(
 ) {
     let mut room = [0; 41];
     let mut output = MemoryOut::new(&mut room);
-    let ended = emulate(rt, alloc, address.into(), 1, &mut output);
+    let ended = emulate(
+        rt,
+        alloc,
+        address.into(),
+        1,
+        ONLINE,
+        LineWidth::usual(),
+        &mut output,
+    );
     is_outcome(rt, (output.written(), ended), (b"", Status::Device));
 }
 
@@ -265,7 +288,14 @@ fn lines_go_out_link_by_link(rt: HostRuntime) {
     let _second = connects_and_says(&rt, address, b"Hi\n");
     let mut room = [0; 64];
     let mut output = MemoryOut::failing(&mut room, 1);
-    let status = emulate_on(rt.alloc(), &listener, 2, &mut output);
+    let status = emulate_on(
+        rt.alloc(),
+        &listener,
+        2,
+        ONLINE,
+        LineWidth::usual(),
+        &mut output,
+    );
     assert!(&rt; status == Status::Device);
     one_waits(&rt, &listener);
 }
@@ -279,7 +309,14 @@ fn many_links(rt: HostRuntime) {
     }
     let mut room = [0; 8192];
     let mut output = MemoryOut::new(&mut room);
-    let status = emulate_on(rt.alloc(), &listener, 119, &mut output);
+    let status = emulate_on(
+        rt.alloc(),
+        &listener,
+        119,
+        ONLINE,
+        LineWidth::usual(),
+        &mut output,
+    );
     assert!(&rt; status == Status::Good);
     let last = b"\nlink 119 read 0 consumed 0 written 0 Ended\n".as_slice();
     assert!(&rt; output.written().ends_with(last));

@@ -3,7 +3,7 @@
 use crate::support::sockets::listens;
 use escpos_command::LineWidth;
 use escpos_io::{MemoryIn, MemoryOut};
-use escpos_jobs::emulate::ONLINE;
+use escpos_jobs::condition::ONLINE;
 use escpos_jobs::loop_link::{both_ends_of, loop_receipt};
 use escpos_jobs::status::Status;
 use escpos_jobs::usage::HELP;

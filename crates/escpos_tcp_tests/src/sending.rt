@@ -8,7 +8,7 @@ use crate::support::sockets::{
 use escpos_command::LineWidth;
 use escpos_io::{ByteIn, MemoryIn, MemoryOut};
 use escpos_jobs::address::Address;
-use escpos_jobs::emulate::ONLINE;
+use escpos_jobs::condition::ONLINE;
 use escpos_jobs::printer_link::{PrinterLink, Printers};
 use escpos_jobs::send::{Marks, send_on, send_over, send_to};
 use escpos_jobs::status::Status;

@@ -5,8 +5,8 @@ use crate::support::sockets::{Prepared, connects_and_says, listens, reads_to_end
 use escpos_command::LineWidth;
 use escpos_io::{MemoryIn, MemoryOut};
 use escpos_jobs::address::AddressText;
+use escpos_jobs::condition::ONLINE;
 use escpos_jobs::condition_file::{ConditionFile, condition_in};
-use escpos_jobs::emulate::ONLINE;
 use escpos_jobs::paper_text::PaperText;
 use escpos_jobs::printer_link::Printers;
 use escpos_jobs::status::Status;

@@ -3,7 +3,7 @@
 use crate::support::asking::printer;
 use escpos_arguments::task_of;
 use escpos_command::LineWidth;
-use escpos_jobs::emulate::ONLINE;
+use escpos_jobs::condition::ONLINE;
 use escpos_jobs::form::Form;
 use escpos_jobs::task::{NoTask, Task};
 use escpos_receipt::ReceiptOptions;

@@ -7,7 +7,7 @@ use crate::support::sockets::{Prepared, answered_link, connects_and_says, listen
 use escpos_command::LineWidth;
 use escpos_host::Receipt;
 use escpos_io::{MemoryIn, MemoryOut};
-use escpos_jobs::emulate::ONLINE;
+use escpos_jobs::condition::ONLINE;
 use escpos_jobs::ending::MEMORY;
 use escpos_jobs::paper_text::PaperText;
 use escpos_jobs::printer_link::PrinterLink;
@@ -216,7 +216,14 @@ fn is_emulated(rt: &impl Abort, put: &[u8], status: Status) -> bool {
 fn emulates_on(rt: &impl Abort, alloc: Global, listener: &TcpListener) -> bool {
     let mut room = [0; 256];
     let mut output = MemoryOut::new(&mut room);
-    let status = escpos_jobs::emulate::emulate_on(alloc, listener, 1, &mut output);
+    let status = escpos_jobs::emulate::emulate_on(
+        alloc,
+        listener,
+        1,
+        ONLINE,
+        LineWidth::usual(),
+        &mut output,
+    );
     is_emulated(rt, output.written(), status)
 }
 
@@ -233,7 +240,15 @@ fn emulate_on_refused(rt: HostRuntime) {
 fn emulates_at(rt: &impl Abort, alloc: Global, net: &Prepared, address: SocketAddrV4) -> bool {
     let mut room = [0; 256];
     let mut output = MemoryOut::new(&mut room);
-    let status = escpos_jobs::emulate::emulate(net, alloc, address.into(), 1, &mut output);
+    let status = escpos_jobs::emulate::emulate(
+        net,
+        alloc,
+        address.into(),
+        1,
+        ONLINE,
+        LineWidth::usual(),
+        &mut output,
+    );
     is_emulated(rt, output.written(), status)
 }
 

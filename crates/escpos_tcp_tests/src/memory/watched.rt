@@ -5,7 +5,7 @@ use crate::support::jobs::printer_at_last;
 use crate::support::sockets::listens;
 use escpos_command::LineWidth;
 use escpos_io::MemoryOut;
-use escpos_jobs::emulate::ONLINE;
+use escpos_jobs::condition::ONLINE;
 use escpos_jobs::ending::MEMORY;
 use escpos_jobs::status::Status;
 use escpos_jobs::watch::Steady;

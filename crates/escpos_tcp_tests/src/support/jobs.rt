@@ -1,7 +1,7 @@
 //! A job's outcome, and its printer.
 
 use escpos_command::LineWidth;
-use escpos_jobs::emulate::ONLINE;
+use escpos_jobs::condition::ONLINE;
 use escpos_jobs::status::Status;
 use escpos_printer::Printer;
 use std::alloc::{AllocError, Global};
