@@ -18,7 +18,7 @@ use Rattle.clap.specs.declared.parser.matches.ArgMatches.TheViews.{out-ArgMatche
 use Rattle.escpos_command.specs.declared.line_width.TheConstants.{USUAL_LINE_DOTS}
 use Rattle.escpos_arguments.specs.Arguments.{Asks, InRange, SetsNothing, StandsAlone, bare_tasks, command_words, help_words}
 use Rattle.escpos_arguments.specs.ClapAnswers.{no_task_of}
-use Rattle.escpos_jobs.specs.declared.form.Form.TheVariants.{Hexadecimal}
+use Rattle.escpos_job_parts.specs.declared.form.Form.TheVariants.{Hexadecimal}
 use Rattle.escpos_jobs.specs.declared.task.NoTask.{NoTask}
 use Rattle.escpos_jobs.specs.declared.task.NoTask.TheVariants.{Help, Memory}
 use Rattle.escpos_jobs.specs.declared.task.Task.{Task}

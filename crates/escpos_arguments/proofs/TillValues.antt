@@ -9,8 +9,8 @@ use Rattle.escpos_arguments.proofs.TaskValues.{no_error, number_in}
 use Rattle.escpos_arguments.specs.TillArguments.{AsksTillBy, IsTillInRange}
 use Rattle.escpos_till.specs.Copy.{IsCopyText}
 use Rattle.escpos_till.specs.Keys.{IsKey}
-use Rattle.escpos_jobs.specs.Address.{IsAddress}
-use Rattle.escpos_jobs.specs.declared.address.Address.{Address}
+use Rattle.escpos_addresses.specs.Address.{IsAddress}
+use Rattle.escpos_addresses.specs.declared.address.Address.{Address}
 use Rattle.escpos_jobs.specs.declared.task.NoTask.{NoTask}
 use Rattle.escpos_till_jobs.specs.declared.deliver.Delivery.{Delivery}
 use Rattle.escpos_till_jobs.specs.declared.task.TillTask.{TillTask}

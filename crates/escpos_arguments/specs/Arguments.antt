@@ -10,13 +10,13 @@ use Rattle.escpos_receipt.specs.declared.options.ReceiptOptions.{ReceiptOptions}
 use Rattle.escpos_arguments.specs.declared.arguments.TheConstants.{LINKS, MOST_LINKS, OPENINGS, MOST_OPENINGS, MOST_WAIT}
 use Rattle.escpos_arguments.specs.declared.image.TheConstants.{MOST_THRESHOLD}
 use Rattle.escpos_printer.specs.declared.condition.Condition.{Condition}
-use Rattle.escpos_jobs.specs.Address.{IsAddress}
-use Rattle.escpos_jobs.specs.declared.address.TheConstants.{MOST_TEXT}
-use Rattle.escpos_jobs.specs.declared.form.Form.{Form}
-use Rattle.escpos_jobs.specs.declared.form.Form.TheVariants.{Hexadecimal, Raw}
+use Rattle.escpos_addresses.specs.Address.{IsAddress}
+use Rattle.escpos_addresses.specs.declared.address.TheConstants.{MOST_TEXT}
+use Rattle.escpos_job_parts.specs.declared.form.Form.{Form}
+use Rattle.escpos_job_parts.specs.declared.form.Form.TheVariants.{Hexadecimal, Raw}
 use Rattle.escpos_jobs.specs.declared.task.Task.{Task}
 use Rattle.escpos_jobs.specs.declared.task.Task.TheVariants.{Check, Render, RenderText, Draw, Encode, Image, Play, Emulate, Send, Status, Loop}
-use Rattle.escpos_jobs.specs.Conditions.{condition_text, online}
+use Rattle.escpos_job_parts.specs.Conditions.{condition_text, online}
 use Rattle.escpos_arguments.specs.ClapAnswers.{IsNumber, IsNumberIn}
 
 -- ---- what a text says

@@ -2,7 +2,7 @@
 use Rattle.std.specs.Prelude.{◌≡◌, List, Option, IsSomeAnd, codes, true}
 use Rattle.clap.specs.Words.{App, Row, Text, first_of, new_app, one_of, with_subcommand}
 use Rattle.clap.specs.Simple.{on_top}
-use Rattle.escpos_jobs.specs.Address.{IsAddress}
+use Rattle.escpos_addresses.specs.Address.{IsAddress}
 use Rattle.escpos_probe.specs.declared.task.ProbeTask.{ProbeTask}
 use Rattle.escpos_arguments.specs.Arguments.{asking_words}
 use Rattle.escpos_arguments.specs.ClapAnswers.{IsNumberIn}

@@ -7,7 +7,7 @@ use Rattle.escpos_command.specs.LineWidths.{is_line_width}
 use Rattle.escpos_arguments.specs.declared.arguments.TheConstants.{OPENINGS, MOST_OPENINGS, PATIENCE}
 use Rattle.escpos_arguments.specs.Arguments.{IsNumberOr, IsOptions, IsWait, GivesOptions, GivesWidth, HasNoOptions, HasNoReplacement, HasRaw, address_rule, flag_rule, option_rule, replace_rule, width_rule}
 use Rattle.escpos_arguments.specs.ClapAnswers.{IsNumber, IsNumberIn}
-use Rattle.escpos_jobs.specs.Address.{IsAddress}
+use Rattle.escpos_addresses.specs.Address.{IsAddress}
 use Rattle.escpos_till.specs.Copy.{IsCopyText}
 use Rattle.escpos_till.specs.Keys.{IsKey}
 use Rattle.escpos_till_jobs.specs.declared.task.TillTask.{TillTask}

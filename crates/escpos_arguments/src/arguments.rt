@@ -2,8 +2,8 @@
 
 ghost use Rattle.std.specs.Prelude.{◌≡◌, ◌≢◌, ◌⊎◌, ◌≤◌, ◌<◌, ◌↔◌, ℕ, List, Option, Some, None, [], ◌∷◌, false, IfErr, IfOk, IfSome, IsSomeAnd, IsTrue, Contains, codes, drop, map};
 ghost use Rattle.clap.specs.Words.{HasKind, IsAmong, app_of, fault_of, first_of, found_of, kind_of, one_of, rows_of, rule_of, subcommand_of, subcommand_rows_of};
-ghost use Rattle.escpos_jobs.specs.Address.{IsAddress};
-ghost use Rattle.escpos_jobs.specs.declared.address.Address.{Address};
+ghost use Rattle.escpos_addresses.specs.Address.{IsAddress};
+ghost use Rattle.escpos_addresses.specs.declared.address.Address.{Address};
 ghost use Rattle.escpos_jobs.specs.declared.task.Task.{Task};
 ghost use Rattle.escpos_arguments.specs.Arguments.{Asks, AsksBy, HasFlag, InRange, IsNumberOr, IsWait, SetsNothing, StandsAlone, address_rule, asking_words, bare_tasks, command_words, emulate_words, encode_words, flag_rule, help_words, image_words, loop_words, option_rule, paper_words, raw_words, render_words, send_words, stream_words};
 ghost use Rattle.escpos_arguments.specs.ClapAnswers.{IsNumber, IsNumberIn, no_task_of};
@@ -15,7 +15,7 @@ use crate::options::{encode_asked, has_no_options, options_or_usual};
 use crate::width::{draw_asked, has_no_width, loop_asked, render_asked};
 use clap::error::ErrorKind;
 use clap::{Arg, ArgAction, ArgMatches, Command};
-use escpos_jobs::address::Address;
+use escpos_addresses::address::Address;
 use escpos_jobs::task::{NoTask, Task};
 use std::alloc::{AllocError, Global};
 use std::convert::AsStr;

@@ -3,15 +3,15 @@
 ghost use Rattle.std.specs.Prelude.{◌≡◌, ◌≤◌, ℕ, Option, length, IfErr, IfOk, IfSome, codes};
 ghost use Rattle.clap.specs.Words.{Text, first_of, found_of, rows_of};
 ghost use Rattle.escpos_printer.specs.declared.condition.Condition.{Condition};
-ghost use Rattle.escpos_jobs.specs.declared.address.TheConstants.{MOST_TEXT};
+ghost use Rattle.escpos_addresses.specs.declared.address.TheConstants.{MOST_TEXT};
 ghost use Rattle.escpos_jobs.specs.declared.task.Task.{Task};
 ghost use Rattle.escpos_arguments.specs.Arguments.{AsksBy, InRange, IsConditionOr, IsLinkCount, IsLinks};
 
 use crate::arguments::{LINKS, MOST_LINKS, address_of, count_of, has_flag, number_given};
 use crate::width::width_or_usual;
 use clap::ArgMatches;
-use escpos_jobs::address::AddressText;
-use escpos_jobs::condition::{ONLINE, condition_of};
+use escpos_addresses::address::AddressText;
+use escpos_job_parts::condition::{ONLINE, condition_of};
 use escpos_jobs::task::{NoTask, Task};
 use escpos_printer::Condition;
 

@@ -2,13 +2,13 @@
 
 ghost use Rattle.std.specs.Prelude.{◌≡◌, codes};
 ghost use Rattle.clap.specs.Words.{found_of, rows_of};
-ghost use Rattle.escpos_jobs.specs.declared.form.Form.{Form as StreamForm};
+ghost use Rattle.escpos_job_parts.specs.declared.form.Form.{Form as StreamForm};
 ghost use Rattle.escpos_jobs.specs.declared.task.Task.{Task};
 ghost use Rattle.escpos_arguments.specs.Arguments.{AsksBy, GivesForm};
 
 use crate::arguments::has_flag;
 use clap::ArgMatches;
-use escpos_jobs::form::Form;
+use escpos_job_parts::form::Form;
 use escpos_jobs::task::Task;
 
 // The task of `check` with the arguments that follow it.

@@ -1,11 +1,11 @@
 //! The arguments of the command line, and what they ask for.
 
 use crate::support::asking::{asks_for, printer};
+use escpos_addresses::address::Address;
 use escpos_arguments::asks_version;
 use escpos_command::LineWidth;
-use escpos_jobs::address::Address;
-use escpos_jobs::condition::ONLINE;
-use escpos_jobs::form::Form;
+use escpos_job_parts::condition::ONLINE;
+use escpos_job_parts::form::Form;
 use escpos_jobs::task::{NoTask, Task};
 use escpos_printer::Condition;
 use escpos_receipt::ReceiptOptions;

@@ -1,11 +1,11 @@
 //! Options: widths of lines, plain text, replacements, and thresholds of pictures.
 
 use crate::support::asking::{asks_for, printer};
+use escpos_addresses::address::AddressText;
 use escpos_arguments::task_of;
 use escpos_command::LineWidth;
-use escpos_jobs::address::AddressText;
-use escpos_jobs::condition::ONLINE;
-use escpos_jobs::form::Form;
+use escpos_job_parts::condition::ONLINE;
+use escpos_job_parts::form::Form;
 use escpos_jobs::task::{NoTask, Task};
 use escpos_printer::Condition;
 use escpos_receipt::ReceiptOptions;

@@ -3,12 +3,12 @@ use Rattle.std.proofs.Common.{◌≡◌, ℕ, ◌≤◌, ℤ, pos, nat_abs, Bool
 use Rattle.std.specs.Prelude.{Option, IfSome}
 use Rattle.std.proofs.lemmas.Bool.{cases_lt}
 use Rattle.std.proofs.lemmas.Int.{to_z-of_z}
-use Rattle.escpos_jobs.specs.declared.form.Form.TheVariants.{Raw}
-use Rattle.escpos_jobs.specs.declared.input.TheConstants.{INPUT_LIMIT}
-use Rattle.escpos_jobs.specs.declared.status.Status.{Status}
-use Rattle.escpos_jobs.specs.declared.status.Status.TheVariants as job
-use Rattle.escpos_jobs.specs.Ending.{job_end}
-use Rattle.escpos_jobs.specs.Report.{IsAllRead, IsOfContent, ReportsAs, RunsAs}
+use Rattle.escpos_job_parts.specs.declared.form.Form.TheVariants.{Raw}
+use Rattle.escpos_job_parts.specs.declared.input.TheConstants.{INPUT_LIMIT}
+use Rattle.escpos_job_parts.specs.declared.status.Status.{Status}
+use Rattle.escpos_job_parts.specs.declared.status.Status.TheVariants as job
+use Rattle.escpos_job_parts.specs.Ending.{job_end}
+use Rattle.escpos_stream_jobs.specs.Report.{IsAllRead, IsOfContent, ReportsAs, RunsAs}
 use Rattle.escpos_c.specs.declared.limited_text.TheConstants.{TEXT_LIMIT}
 use Rattle.escpos_c.specs.declared.call_status.CallStatus.{CallStatus}
 use Rattle.escpos_c.specs.declared.call_status.CallStatus.TheVariants as call

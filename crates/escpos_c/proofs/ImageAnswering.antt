@@ -3,11 +3,11 @@ use Rattle.std.proofs.Common.{◌≡◌, ◌⊎◌, ℕ, ℤ, Bool, List, Option
 use Rattle.std.specs.Prelude.{IfSome}
 use Rattle.std.proofs.lemmas.Bool.{cases_lt}
 use Rattle.escpos_image.specs.Whole.{image_text}
-use Rattle.escpos_jobs.specs.declared.input.TheConstants.{INPUT_LIMIT}
-use Rattle.escpos_jobs.specs.declared.status.Status.{Status}
-use Rattle.escpos_jobs.specs.declared.status.Status.TheVariants as job
-use Rattle.escpos_jobs.specs.Ending.{job_end}
-use Rattle.escpos_jobs.specs.Image.{MakesEntries}
+use Rattle.escpos_job_parts.specs.declared.input.TheConstants.{INPUT_LIMIT}
+use Rattle.escpos_job_parts.specs.declared.status.Status.{Status}
+use Rattle.escpos_job_parts.specs.declared.status.Status.TheVariants as job
+use Rattle.escpos_job_parts.specs.Ending.{job_end}
+use Rattle.escpos_stream_jobs.specs.Image.{MakesEntries}
 use Rattle.escpos_c.specs.declared.call_status.CallStatus.{CallStatus}
 use Rattle.escpos_c.specs.declared.call_status.CallStatus.TheVariants as call
 use Rattle.escpos_c.specs.Status.{number_of_status}

@@ -1,7 +1,7 @@
 -- What becomes of a job's text. Only private clauses and proofs use this definition.
 use Rattle.std.specs.Prelude.{ℕ, Bool, true, false, ◌≡◌, List}
-use Rattle.escpos_jobs.specs.declared.status.Status.{Status}
-use Rattle.escpos_jobs.specs.declared.status.Status.TheVariants as job
+use Rattle.escpos_job_parts.specs.declared.status.Status.{Status}
+use Rattle.escpos_job_parts.specs.declared.status.Status.TheVariants as job
 use Rattle.escpos_c.specs.declared.call_status.CallStatus.{CallStatus}
 use Rattle.escpos_c.specs.declared.call_status.CallStatus.TheVariants as call
 use Rattle.escpos_c.specs.Buffer.{Given}

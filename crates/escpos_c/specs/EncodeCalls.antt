@@ -7,7 +7,7 @@ use Rattle.escpos_receipt.specs.declared.options.ReceiptOptions.{ReceiptOptions}
 use Rattle.escpos_receipt.specs.Describes.{DescribesWith, IsFaultWith}
 use Rattle.escpos_receipt.specs.Refusals.{json_number, json_place}
 use Rattle.escpos_receipt.specs.Whole.{Whole}
-use Rattle.escpos_jobs.specs.declared.input.TheConstants.{INPUT_LIMIT}
+use Rattle.escpos_job_parts.specs.declared.input.TheConstants.{INPUT_LIMIT}
 use Rattle.escpos_c.specs.declared.refusal.TheConstants.{BAD_OPTIONS, NO_REASON, NO_PLACE, TOO_LONG}
 use Rattle.escpos_c.specs.Buffer.{Fills, GivesNone, TooShort}
 

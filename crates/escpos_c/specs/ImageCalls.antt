@@ -2,8 +2,8 @@
 use Rattle.std.specs.Prelude.{ℕ, ℤ, pos, ◌≡◌, ◌⊎◌, ◌<◌, ◌≤◌, List, Option, Ok, Err, length, codes}
 use Rattle.escpos_image.specs.declared.fault.ImageFault.{ImageFault}
 use Rattle.escpos_image.specs.Whole.{image_text}
-use Rattle.escpos_jobs.specs.declared.input.TheConstants.{INPUT_LIMIT}
-use Rattle.escpos_jobs.specs.Image.{image_refusal}
+use Rattle.escpos_job_parts.specs.declared.input.TheConstants.{INPUT_LIMIT}
+use Rattle.escpos_stream_jobs.specs.Image.{image_refusal}
 use Rattle.escpos_c.specs.Buffer.{Fills, TooShort}
 
 -- The text is the entries of the picture that these bytes are, which aren't too many.

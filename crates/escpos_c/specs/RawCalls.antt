@@ -5,7 +5,7 @@ use Rattle.escpos_receipt.specs.Whole.{Whole}
 use Rattle.escpos_stream.specs.declared.fault.StreamFault.{StreamFault}
 use Rattle.escpos_stream.specs.Refusals.{stream_number, stream_place}
 use Rattle.escpos_stream.specs.Streams.{IsStreamFault, StreamGives}
-use Rattle.escpos_jobs.specs.declared.input.TheConstants.{INPUT_LIMIT}
+use Rattle.escpos_job_parts.specs.declared.input.TheConstants.{INPUT_LIMIT}
 use Rattle.escpos_till.specs.Contents.{content_of_stream}
 use Rattle.escpos_till.specs.Machine.{Queues, RefusesAny, SameEntries}
 use Rattle.escpos_host.specs.Machine.{RefusesSubmit}

@@ -1,7 +1,7 @@
 -- What a call that makes a text of a stream answers: the listing, the paper, the picture.
 use Rattle.std.specs.Prelude.{ℕ, ℤ, pos, ◌≡◌, ◌⊎◌, ◌<◌, ◌≤◌, List, length, codes}
-use Rattle.escpos_jobs.specs.declared.input.TheConstants.{INPUT_LIMIT}
-use Rattle.escpos_jobs.specs.Report.{IsAllRead}
+use Rattle.escpos_job_parts.specs.declared.input.TheConstants.{INPUT_LIMIT}
+use Rattle.escpos_stream_jobs.specs.Report.{IsAllRead}
 use Rattle.escpos_c.specs.declared.limited_text.TheConstants.{TEXT_LIMIT}
 use Rattle.escpos_c.specs.Buffer.{Fills, TooShort}
 

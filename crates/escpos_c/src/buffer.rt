@@ -8,7 +8,7 @@ ghost use Rattle.escpos_c.specs.LimitedText.{is_too_long, text_of};
 
 use crate::call_status::CallStatus;
 use crate::limited_text::LimitedText;
-use escpos_jobs::status::Status;
+use escpos_job_parts::status::Status;
 
 /// Copies `text` to the start of `out`, and returns `status`. If `out` is too short for all of it, it stays as it is, and the
 /// status is `Short`. In either case `written` is the length of the text.

@@ -12,7 +12,7 @@ use crate::no_receipt::{NoReceipt, no_receipt};
 use crate::options::Options;
 use crate::refusal::Refusal;
 use crate::spelling::spelled;
-use escpos_jobs::input::INPUT_LIMIT;
+use escpos_job_parts::input::INPUT_LIMIT;
 use escpos_receipt::{ReceiptOptions, ReceiptText};
 use std::alloc::Global;
 

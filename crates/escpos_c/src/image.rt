@@ -9,7 +9,7 @@ use crate::buffer::{answer, give_none};
 use crate::options::line_width;
 use escpos_command::LineWidth;
 use escpos_io::{MemoryIn, Outgoing};
-use escpos_jobs::image::image;
+use escpos_stream_jobs::image::image;
 use std::alloc::Global;
 
 /// Makes a PBM, PGM or PPM picture the entries of a receipt's text, in lines of this many dots, as `image --width D --threshold T`

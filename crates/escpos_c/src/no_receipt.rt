@@ -4,7 +4,7 @@ ghost use Rattle.std.specs.Prelude.{◌≡◌, ◌≤◌, ℕ, List, length};
 ghost use Rattle.escpos_receipt.specs.declared.json.JsonFault.{JsonFault};
 ghost use Rattle.escpos_receipt.specs.declared.options.ReceiptOptions.{ReceiptOptions};
 ghost use Rattle.escpos_receipt.specs.Describes.{IsFaultWith};
-ghost use Rattle.escpos_jobs.specs.declared.input.TheConstants.{INPUT_LIMIT};
+ghost use Rattle.escpos_job_parts.specs.declared.input.TheConstants.{INPUT_LIMIT};
 ghost use Rattle.escpos_c.specs.Reasons.{IsReason};
 
 use crate::refusal::Refusal;

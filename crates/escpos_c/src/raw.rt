@@ -21,7 +21,7 @@ use crate::till_handle::TillHandle;
 use crate::till_numbers::{Told, ended};
 use escpos_command::LineWidth;
 use escpos_host::Receipt;
-use escpos_jobs::input::INPUT_LIMIT;
+use escpos_job_parts::input::INPUT_LIMIT;
 use escpos_stream::{StreamError, stream_receipt};
 use escpos_till::ReceiptContent;
 use std::alloc::Global;

@@ -4,10 +4,10 @@
 
 ghost use Rattle.std.specs.Prelude.{MatchOption};
 ghost use Rattle.escpos_command.specs.declared.line_width.TheConstants.{USUAL_LINE_DOTS};
-ghost use Rattle.escpos_jobs.specs.Report.{IsText};
-ghost use Rattle.escpos_jobs.specs.Check.{listing_shape};
-ghost use Rattle.escpos_jobs.specs.Render.{paper_shape, plain_shape};
-ghost use Rattle.escpos_jobs.specs.Draw.{IsPicture};
+ghost use Rattle.escpos_stream_jobs.specs.Report.{IsText};
+ghost use Rattle.escpos_stream_jobs.specs.Check.{listing_shape};
+ghost use Rattle.escpos_stream_jobs.specs.Render.{paper_shape, plain_shape};
+ghost use Rattle.escpos_stream_jobs.specs.Draw.{IsPicture};
 ghost use Rattle.escpos_c.specs.Buffer.{GivesNone};
 ghost use Rattle.escpos_c.specs.Given.{line_dots};
 ghost use Rattle.escpos_c.specs.TextCalls.{AnswersText};
@@ -17,10 +17,10 @@ use crate::limited_text::LimitedText;
 use crate::options::line_width;
 use escpos_command::LineWidth;
 use escpos_io::MemoryIn;
-use escpos_jobs::check::check;
-use escpos_jobs::draw::draw;
-use escpos_jobs::form::Form;
-use escpos_jobs::render::{render, render_text};
+use escpos_job_parts::form::Form;
+use escpos_stream_jobs::check::check;
+use escpos_stream_jobs::draw::draw;
+use escpos_stream_jobs::render::{render, render_text};
 use std::alloc::Global;
 
 /// Lists the commands of a stream, as `check --raw` does.

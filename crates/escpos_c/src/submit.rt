@@ -17,7 +17,7 @@ use crate::no_receipt::{NoReceipt, no_receipt};
 use crate::options::Options;
 use crate::refusal::{NO_PLACE, NO_REASON, Refusal};
 use escpos_host::Receipt;
-use escpos_jobs::input::INPUT_LIMIT;
+use escpos_job_parts::input::INPUT_LIMIT;
 use escpos_receipt::ReceiptOptions;
 use std::alloc::Global;
 

@@ -21,7 +21,7 @@ use crate::till_lines::line_of;
 use crate::till_numbers::{
     Asked, BAD_COPY, BAD_KEY, NOT_TAKEN, Standing, Told, ended, fault_of, note_asked, standing_of,
 };
-use escpos_jobs::input::INPUT_LIMIT;
+use escpos_job_parts::input::INPUT_LIMIT;
 use escpos_receipt::ReceiptOptions;
 use escpos_till::{
     Action, CopyText, Entry, ReceiptContent, ReceiptKey, ReceiptNumber, StoreFault, TillMachine,

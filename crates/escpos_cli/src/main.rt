@@ -14,16 +14,18 @@ pub use escpos_arguments::{
     asks_version, completions_of, is_completions_word, is_probe_word, is_till_word, probe_task_of,
     task_of, till_task_of, without_name,
 };
+use escpos_help::usage::{VERSION, say_help};
 use escpos_io::{ByteIn, ByteOut, Incoming, Outgoing};
-use escpos_jobs::ending::say;
+use escpos_job_parts::ending::say;
+pub use escpos_job_parts::status;
+use escpos_job_parts::status::Status;
 use escpos_jobs::perform::perform;
-use escpos_jobs::status::Status;
 use escpos_jobs::task::NoTask;
-use escpos_jobs::usage::{VERSION, say_help};
-pub use escpos_jobs::{
-    check, draw, emulate, encode, loop_link, perform, play, render, send, status, task,
-};
+pub use escpos_jobs::{perform, task};
 use escpos_probe::probe;
+pub use escpos_script::play;
+pub use escpos_stream_jobs::{check, draw, encode, render};
+pub use escpos_tcp_jobs::{emulate, loop_link, send};
 use escpos_till::PrinterLine;
 use escpos_till_jobs::{LedgerPath, Lines, NetworkLines, TillTask, perform_till};
 use std::process::ExitCode;

@@ -3,7 +3,7 @@
 use escpos_decode::{Decoded, End, decode};
 use escpos_host::Receipt;
 use escpos_io::MemoryIn;
-use escpos_jobs::status::Status;
+use escpos_job_parts::status::Status;
 use escpos_test_jobs::{Row, encode_task, performs, performs_rows, prints};
 use escpos_test_receipts::{EVERY_MEMBER, filled, read_receipt};
 use std::alloc::Global;

@@ -2,7 +2,7 @@
 //! refused for its own reason.
 
 use escpos_io::{MemoryIn, MemoryOut};
-use escpos_jobs::status::Status;
+use escpos_job_parts::status::Status;
 use escpos_test_jobs::{NoNetwork, encode_task, prints, run_job};
 use escpos_test_receipts::{filled, joined};
 use std::alloc::Global;

@@ -4,7 +4,7 @@
 //! compares the files with what the built program prints.
 
 use escpos_io::MemoryIn;
-use escpos_jobs::status::Status;
+use escpos_job_parts::status::Status;
 use escpos_test_jobs::{check_task, encode_task, performs, render_task};
 
 mod tax_receipt;

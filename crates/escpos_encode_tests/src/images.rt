@@ -2,8 +2,8 @@
 
 use escpos_command::LineWidth;
 use escpos_io::{MemoryIn, Outgoing};
+use escpos_job_parts::status::Status;
 use escpos_jobs::perform::perform;
-use escpos_jobs::status::Status;
 use escpos_jobs::task::Task;
 use escpos_test_jobs::{NoNetwork, Row, encode_task, performs_rows, prints};
 use escpos_test_receipts::joined;

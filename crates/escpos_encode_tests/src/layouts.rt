@@ -1,8 +1,8 @@
 //! Layouts through `encode`: pairs, rows, rules and wrapped texts, in lines of twelve characters of font A.
 
 use escpos_command::LineWidth;
-use escpos_jobs::form::Form;
-use escpos_jobs::status::Status;
+use escpos_job_parts::form::Form;
+use escpos_job_parts::status::Status;
 use escpos_jobs::task::Task;
 use escpos_receipt::ReceiptOptions;
 use escpos_test_jobs::{Row, performs_rows, raw_encode_task};

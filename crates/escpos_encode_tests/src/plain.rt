@@ -2,8 +2,8 @@
 
 use escpos_command::LineWidth;
 use escpos_io::{MemoryIn, Outgoing};
-use escpos_jobs::form::Form;
-use escpos_jobs::status::Status;
+use escpos_job_parts::form::Form;
+use escpos_job_parts::status::Status;
 use escpos_jobs::task::Task;
 use escpos_receipt::ReceiptOptions;
 use escpos_test_jobs::{

@@ -1,6 +1,6 @@
 //! QR codes in receipts, through `encode`.
 
-use escpos_jobs::status::Status;
+use escpos_job_parts::status::Status;
 use escpos_test_jobs::{Row, encode_task, performs_rows, prints};
 use escpos_test_receipts::joined;
 

@@ -1,41 +1,36 @@
 //! What the program does for its arguments, over any source and sink: a job, a link, or a text.
 
 ghost use Rattle.std.specs.Prelude.{◌≡◌, ◌≢◌, ◌⊎◌, ◌+◌, ◌≤◌, ℕ, Option, IfSome, IsTrue};
-ghost use Rattle.escpos_jobs.specs.declared.form.Form.{Form};
-ghost use Rattle.escpos_jobs.specs.declared.input.TheConstants.{INPUT_LIMIT};
-ghost use Rattle.escpos_jobs.specs.Check.{Checks};
-ghost use Rattle.escpos_jobs.specs.Draw.{DrawsInput};
-ghost use Rattle.escpos_jobs.specs.Encode.{Encodes};
-ghost use Rattle.escpos_jobs.specs.Render.{Renders, RendersText};
-ghost use Rattle.escpos_jobs.specs.Ending.{PrintsText, memory_line, job_end};
-ghost use Rattle.escpos_jobs.specs.Image.{MakesEntries};
-ghost use Rattle.escpos_jobs.specs.Play.{Plays};
-ghost use Rattle.escpos_jobs.specs.declared.usage.TheConstants.{HELP, USAGE};
+ghost use Rattle.escpos_job_parts.specs.declared.form.Form.{Form};
+ghost use Rattle.escpos_job_parts.specs.declared.input.TheConstants.{INPUT_LIMIT};
+ghost use Rattle.escpos_stream_jobs.specs.Check.{Checks};
+ghost use Rattle.escpos_stream_jobs.specs.Draw.{DrawsInput};
+ghost use Rattle.escpos_stream_jobs.specs.Encode.{Encodes};
+ghost use Rattle.escpos_stream_jobs.specs.Render.{Renders, RendersText};
+ghost use Rattle.escpos_job_parts.specs.Ending.{PrintsText, memory_line, job_end};
+ghost use Rattle.escpos_stream_jobs.specs.Image.{MakesEntries};
+ghost use Rattle.escpos_script.specs.Play.{Plays};
+ghost use Rattle.escpos_help.specs.declared.usage.TheConstants.{HELP, USAGE};
 ghost use Rattle.escpos_jobs.specs.Perform.{ReadsInput, UsesLinks};
 ghost use Rattle.escpos_receipt.specs.declared.options.ReceiptOptions.{ReceiptOptions};
 
-use crate::address::{Address, AddressText};
-use crate::check::check;
-use crate::condition_file::ConditionFile;
-use crate::draw::draw;
-use crate::emulate::{emulate, follow};
-use crate::encode::encode;
-use crate::ending::{MEMORY, say};
-use crate::image::image;
-use crate::loop_link::loop_receipt;
-use crate::play::play;
-use crate::printer_link::Printers;
-use crate::printer_status::show_status;
-use crate::render::{render, render_text};
-use crate::send::{Marks, send_to};
-use crate::status::Status;
 use crate::task::{NoTask, Task};
-use crate::usage::{HELP, USAGE};
-use crate::wait::Within;
-use crate::watched_link::emulate_by;
-use escpos_command::LineWidth;
+use escpos_addresses::printer_link::Printers;
+use escpos_addresses::wait::Within;
+use escpos_help::usage::{HELP, USAGE};
 use escpos_io::{ByteIn, ByteOut};
-use escpos_printer::Condition;
+use escpos_job_parts::ending::{MEMORY, say};
+use escpos_job_parts::status::Status;
+use escpos_script::play::play;
+use escpos_stream_jobs::check::check;
+use escpos_stream_jobs::draw::draw;
+use escpos_stream_jobs::encode::encode;
+use escpos_stream_jobs::image::image;
+use escpos_stream_jobs::render::{render, render_text};
+use escpos_tcp_jobs::emulate::emulate;
+use escpos_tcp_jobs::loop_link::loop_receipt;
+use escpos_tcp_jobs::printer_status::show_status;
+use escpos_tcp_jobs::send::{Marks, send_to};
 use std::alloc::Global;
 use std::net::{Net, TcpListener};
 
@@ -95,7 +90,7 @@ pub fn perform<N: Printers + Net<Listener = TcpListener>, R: ByteIn, W: ByteOut>
                 width,
                 file,
             },
-        ) => emulate_as_asked(
+        ) => emulate(
             net, alloc, *address, *links, *condition, *width, *file, output,
         ),
         Ok(
@@ -132,29 +127,5 @@ pub fn perform<N: Printers + Net<Listener = TcpListener>, R: ByteIn, W: ByteOut>
         Err(NoTask::Help) => say(HELP.as_bytes(), output, Status::Good),
         Err(NoTask::Usage) => say(USAGE.as_bytes(), output, Status::Usage),
         Err(NoTask::Memory) => say(MEMORY, output, Status::Memory),
-    }
-}
-
-// Is a printer, as `Task::Emulate` says.
-fn emulate_as_asked<N: Printers + Net<Listener = TcpListener>, W: ByteOut>(
-    net: &N,
-    alloc: Global,
-    address: Address,
-    links: Option<u32>,
-    condition: Condition,
-    width: LineWidth,
-    file: Option<AddressText>,
-    output: &mut W,
-) -> Status
-    ensures never_usage { result ≢ Status.Usage }
-    ensures not_hidden { result ≢ Status.Device → ¬ IsTrue (W.failed output.old) → ¬ IsTrue (W.failed output.new) }
-{
-    if let Some(file) = file {
-        let sensors = ConditionFile::new(net, file, condition);
-        return emulate_by(net, alloc, address, links, width, sensors, output);
-    }
-    match links {
-        Some(links) => emulate(net, alloc, address, links, condition, width, output),
-        None => follow(net, alloc, address, condition, width, output),
     }
 }

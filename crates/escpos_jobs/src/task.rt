@@ -1,8 +1,8 @@
 //! What the program may be asked to do, and why arguments name no task. `perform` does it.
 
-use crate::address::{Address, AddressText};
-use crate::form::Form;
+use escpos_addresses::address::{Address, AddressText};
 use escpos_command::LineWidth;
+use escpos_job_parts::form::Form;
 use escpos_printer::Condition;
 use escpos_receipt::ReceiptOptions;
 use thiserror::Error;

@@ -1,6 +1,6 @@
 //! The rows of `check`, and long listings.
 
-use escpos_jobs::status::Status;
+use escpos_job_parts::status::Status;
 use escpos_test_jobs::{Row, check_task, performs_rows, prints};
 use escpos_test_receipts::{filled, joined};
 use std::alloc::Global;

@@ -1,6 +1,6 @@
 //! The rows of `draw`: every number of these documents is worked out from the rules of docs/PROFILE.md, not read off.
 
-use escpos_jobs::status::Status;
+use escpos_job_parts::status::Status;
 use escpos_test_jobs::{draw_task, prints, raw_draw_task};
 use std::alloc::Global;
 use std::process::Abort;

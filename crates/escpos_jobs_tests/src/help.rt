@@ -1,11 +1,11 @@
 //! What no job prints: the help, the usage, and the statuses. What the help shows is what the jobs do.
 
 use escpos_decode::Decoder;
+use escpos_help::usage::{HELP, USAGE, VERSION, say_help};
 use escpos_host::JsonFault;
 use escpos_io::{ByteIn, MemoryIn, MemoryOut};
-use escpos_jobs::status::Status;
+use escpos_job_parts::status::Status;
 use escpos_jobs::task::{NoTask, Task};
-use escpos_jobs::usage::{HELP, USAGE, VERSION, say_help};
 use escpos_test_jobs::{
     check_task, encode_task, performs, prints, raw_check_task, raw_encode_task, render_task,
 };

@@ -1,8 +1,8 @@
 //! The input of a job: hexadecimal digits, what is no digit, the limit of its length, and a source or a sink that fails.
 
 use escpos_io::MemoryIn;
-use escpos_jobs::hexadecimal::{NotHexadecimal, bytes_of};
-use escpos_jobs::status::Status;
+use escpos_job_parts::hexadecimal::{NotHexadecimal, bytes_of};
+use escpos_job_parts::status::Status;
 use escpos_jobs::task::Task;
 use escpos_test_jobs::{Row, check_task, performs, performs_rows, prints, render_task};
 use escpos_test_receipts::{filled, joined};

@@ -1,6 +1,6 @@
 //! Scripts through `play`: the worked rows of a line, each line of a script with what it prints, and lines that are none.
 
-use escpos_jobs::status::Status;
+use escpos_job_parts::status::Status;
 use escpos_jobs::task::Task;
 use escpos_test_jobs::{Row, performs_rows, prints};
 use escpos_test_receipts::joined;

@@ -1,7 +1,7 @@
 //! QR codes through `check` and `render`.
 
 use escpos_io::MemoryIn;
-use escpos_jobs::status::Status;
+use escpos_job_parts::status::Status;
 use escpos_test_jobs::{Row, check_task, performs, performs_rows, prints, render_task};
 use escpos_test_receipts::joined;
 

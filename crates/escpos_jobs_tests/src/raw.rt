@@ -1,7 +1,7 @@
 //! Bytes as they are: the worked rows of `check --raw`, `render --raw` and `encode --raw`.
 
 use escpos_io::MemoryIn;
-use escpos_jobs::status::Status;
+use escpos_job_parts::status::Status;
 use escpos_test_jobs::{
     Row, performs, performs_rows, prints, raw_check_task, raw_encode_task, raw_render_task,
 };

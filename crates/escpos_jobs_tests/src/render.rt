@@ -1,6 +1,6 @@
 //! The rows of `render`: lines, styles, barcodes, rasters and feeds as they lie on paper.
 
-use escpos_jobs::status::Status;
+use escpos_job_parts::status::Status;
 use escpos_test_jobs::{Row, performs_rows, prints, render_task};
 use escpos_test_receipts::filled;
 use std::alloc::Global;

@@ -1,8 +1,8 @@
 //! The paper of lines of other widths.
 
 use escpos_command::LineWidth;
-use escpos_jobs::form::Form;
-use escpos_jobs::status::Status;
+use escpos_job_parts::form::Form;
+use escpos_job_parts::status::Status;
 use escpos_jobs::task::Task;
 use escpos_test_jobs::{Row, performs_rows, raw_render_task};
 use std::process::Abort;

@@ -9,12 +9,12 @@ use crate::premises::Premises;
 use crate::question::{Form, QUESTIONS, Question};
 use crate::task::ProbeTask;
 use crate::told::{append_answer, append_premises};
+use escpos_addresses::address::Address;
+use escpos_addresses::printer_link::Printers;
+use escpos_addresses::wait::Within;
 use escpos_io::{ByteIn, ByteOut, Device, Gather, Incoming, Outgoing, put_all};
-use escpos_jobs::address::Address;
-use escpos_jobs::ending::{NO_LINK, say};
-use escpos_jobs::printer_link::Printers;
-use escpos_jobs::status::Status;
-use escpos_jobs::wait::Within;
+use escpos_job_parts::ending::{NO_LINK, say};
+use escpos_job_parts::status::Status;
 
 /// How many seconds a byte is waited for where nothing else is said.
 pub const USUAL_WAIT: u32 = 2;

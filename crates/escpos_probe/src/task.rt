@@ -1,6 +1,6 @@
 //! What `probe` is asked to do.
 
-use escpos_jobs::address::Address;
+use escpos_addresses::address::Address;
 
 /// Ask the printer at this address what it answers, where each byte is waited for `wait` seconds; two where nothing is given.
 #[derive(Clone, Copy, Debug, PartialEq, Eq)]

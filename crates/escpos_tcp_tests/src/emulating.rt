@@ -4,15 +4,15 @@ use crate::support::jobs::is_outcome;
 use crate::support::sockets::{
     NEVER, Prepared, connects_and_says, listens, one_waits, reads_to_end, says,
 };
+use escpos_addresses::printer_link::Printers;
 use escpos_command::LineWidth;
 use escpos_io::{MemoryIn, MemoryOut};
-use escpos_jobs::condition::ONLINE;
-use escpos_jobs::emulate::{emulate, emulate_on, follow_link, follow_on, serve_and_tell};
-use escpos_jobs::paper_text::PaperText;
-use escpos_jobs::printer_link::Printers;
-use escpos_jobs::status::Status;
+use escpos_job_parts::condition::ONLINE;
+use escpos_job_parts::status::Status;
 use escpos_jobs::task::Task;
 use escpos_printer::{Condition, Printer};
+use escpos_tcp_jobs::emulate::{emulate, emulate_on, follow_link, follow_on, serve_and_tell};
+use escpos_tcp_jobs::paper_text::PaperText;
 use escpos_test_jobs::run_job;
 use escpos_test_receipts::joined;
 use std::alloc::Global;
@@ -125,7 +125,7 @@ fn client_resets(rt: HostRuntime) {
 }
 
 // The port of this address is in use.
-fn is_in_use<N: Net<Stream = TcpStream, Listener = TcpListener> + Abort>(
+fn is_in_use<N: Printers + Net<Stream = TcpStream, Listener = TcpListener> + Abort>(
     rt: &N,
     alloc: Global,
     address: SocketAddrV4,
@@ -136,9 +136,10 @@ fn is_in_use<N: Net<Stream = TcpStream, Listener = TcpListener> + Abort>(
         rt,
         alloc,
         address.into(),
-        1,
+        Some(1),
         ONLINE,
         LineWidth::usual(),
+        None,
         &mut output,
     );
     is_outcome(rt, (output.written(), ended), (b"", Status::Device));

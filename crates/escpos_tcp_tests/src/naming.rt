@@ -1,8 +1,8 @@
 //! What is looked up for a host's name and a port.
 
-use escpos_jobs::address::Address;
-use escpos_jobs::printer_link::Printers;
-use escpos_jobs::wait::Within;
+use escpos_addresses::address::Address;
+use escpos_addresses::printer_link::Printers;
+use escpos_addresses::wait::Within;
 use std::io;
 use std::io::ErrorKind;
 use std::net::{Ipv4Addr, Net, SocketAddr, SocketAddrV4, TcpListener, TcpStream};

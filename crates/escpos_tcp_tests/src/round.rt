@@ -2,12 +2,12 @@
 
 use crate::support::sockets::listens;
 use escpos_command::LineWidth;
+use escpos_help::usage::HELP;
 use escpos_io::{MemoryIn, MemoryOut};
-use escpos_jobs::condition::ONLINE;
-use escpos_jobs::loop_link::{both_ends_of, loop_receipt};
-use escpos_jobs::status::Status;
-use escpos_jobs::usage::HELP;
+use escpos_job_parts::condition::ONLINE;
+use escpos_job_parts::status::Status;
 use escpos_printer::{Condition, Printer};
+use escpos_tcp_jobs::loop_link::{both_ends_of, loop_receipt};
 use escpos_test_receipts::{S, joined, read_receipt};
 use std::alloc::Global;
 use std::net::{Net, Shutdown, TcpListener, TcpStream};

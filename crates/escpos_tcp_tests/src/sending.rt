@@ -5,15 +5,15 @@ use crate::support::sockets::{
     ANSWERED_BYTES, NEVER, Prepared, answered_link, connects_and_says, listens, nobody_waits,
     reads_to_end,
 };
+use escpos_addresses::address::Address;
+use escpos_addresses::printer_link::{PrinterLink, Printers};
 use escpos_command::LineWidth;
 use escpos_io::{ByteIn, MemoryIn, MemoryOut};
-use escpos_jobs::address::Address;
-use escpos_jobs::condition::ONLINE;
-use escpos_jobs::printer_link::{PrinterLink, Printers};
-use escpos_jobs::send::{Marks, send_on, send_over, send_to};
-use escpos_jobs::status::Status;
+use escpos_job_parts::condition::ONLINE;
+use escpos_job_parts::status::Status;
 use escpos_jobs::task::Task;
 use escpos_receipt::ReceiptOptions;
+use escpos_tcp_jobs::send::{Marks, send_on, send_over, send_to};
 use escpos_test_jobs::{performs, run_job};
 use escpos_test_receipts::{S, read_receipt};
 use std::alloc::Global;

@@ -2,11 +2,11 @@
 
 use crate::support::jobs::is_outcome;
 use crate::support::sockets::{NEVER, Prepared, listens, reads_to_end, says};
+use escpos_addresses::printer_link::Printers;
 use escpos_io::{MemoryIn, MemoryOut};
-use escpos_jobs::printer_link::Printers;
-use escpos_jobs::printer_status::{show_status, status_over};
-use escpos_jobs::status::Status;
+use escpos_job_parts::status::Status;
 use escpos_jobs::task::Task;
+use escpos_tcp_jobs::printer_status::{show_status, status_over};
 use escpos_test_jobs::run_job;
 use escpos_test_receipts::joined;
 use std::alloc::Global;

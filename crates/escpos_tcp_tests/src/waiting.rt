@@ -4,9 +4,9 @@
 
 use crate::support::jobs::is_outcome;
 use crate::support::sockets::{answered_link, listens};
+use escpos_addresses::printer_link::Printers;
 use escpos_io::{ByteIn, ByteOut, Failed, Incoming, MemoryIn, MemoryOut, Outgoing};
-use escpos_jobs::printer_link::Printers;
-use escpos_jobs::status::Status;
+use escpos_job_parts::status::Status;
 use escpos_jobs::task::Task;
 use escpos_receipt::ReceiptOptions;
 use escpos_test_jobs::run_job;

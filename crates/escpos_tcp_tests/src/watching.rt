@@ -2,18 +2,18 @@
 
 use crate::support::jobs::is_outcome;
 use crate::support::sockets::{Prepared, connects_and_says, listens, reads_to_end};
+use escpos_addresses::address::AddressText;
+use escpos_addresses::printer_link::Printers;
 use escpos_command::LineWidth;
 use escpos_io::{MemoryIn, MemoryOut};
-use escpos_jobs::address::AddressText;
-use escpos_jobs::condition::ONLINE;
-use escpos_jobs::condition_file::{ConditionFile, condition_in};
-use escpos_jobs::paper_text::PaperText;
-use escpos_jobs::printer_link::Printers;
-use escpos_jobs::status::Status;
+use escpos_job_parts::condition::ONLINE;
+use escpos_job_parts::status::Status;
 use escpos_jobs::task::Task;
-use escpos_jobs::watch::{Conditions, Steady, watch_link};
-use escpos_jobs::watched_link::{emulate_by_on, follow_watched, watch_and_tell};
 use escpos_printer::{Condition, Printer};
+use escpos_tcp_jobs::condition_file::{ConditionFile, condition_in};
+use escpos_tcp_jobs::paper_text::PaperText;
+use escpos_tcp_jobs::watch::{Conditions, Steady, watch_link};
+use escpos_tcp_jobs::watched_link::{emulate_by_on, follow_watched, watch_and_tell};
 use escpos_test_jobs::run_job;
 use std::alloc::Global;
 use std::fs::{File, Files};

@@ -2,11 +2,11 @@
 
 use crate::support::jobs::is_outcome;
 use crate::support::sockets::{Prepared, answered_link, connects_and_says, listens};
+use escpos_addresses::printer_link::Printers;
 use escpos_command::LineWidth;
 use escpos_io::{MemoryIn, MemoryOut};
-use escpos_jobs::condition::ONLINE;
-use escpos_jobs::printer_link::Printers;
-use escpos_jobs::status::Status;
+use escpos_job_parts::condition::ONLINE;
+use escpos_job_parts::status::Status;
 use escpos_jobs::task::Task;
 use escpos_receipt::ReceiptOptions;
 use escpos_test_jobs::run_job;

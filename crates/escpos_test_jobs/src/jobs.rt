@@ -1,10 +1,10 @@
 //! A job of the program over memory.
 
+use escpos_addresses::printer_link::Printers;
 use escpos_io::{ByteOut, MemoryIn, MemoryOut, Outgoing};
-use escpos_jobs::ending::MEMORY;
+use escpos_job_parts::ending::MEMORY;
+use escpos_job_parts::status::Status;
 use escpos_jobs::perform::perform;
-use escpos_jobs::printer_link::Printers;
-use escpos_jobs::status::Status;
 use escpos_jobs::task::{NoTask, Task};
 use std::alloc::Global;
 use std::io;

@@ -1,7 +1,7 @@
 //! What the program is asked for by the name of a job alone, and by `--raw` after it: lines of the usual width, and the usual options.
 
 use escpos_command::LineWidth;
-use escpos_jobs::form::Form;
+use escpos_job_parts::form::Form;
 use escpos_jobs::task::Task;
 use escpos_receipt::ReceiptOptions;
 

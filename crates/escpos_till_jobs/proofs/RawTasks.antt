@@ -1,11 +1,11 @@
 -- Why an input is no receipt as a stream, as it is told.
 use Rattle.std.proofs.Common.{ℕ, Bool, ◌≡◌, ◌⊎◌, inl, inr, Option, None, Some, List, refl, ◌∙◌, ap, subst}
 use Rattle.std.specs.Prelude.{IfSome, IsTrue, codes, length, ◌≤◌, ◌<◌}
-use Rattle.escpos_jobs.specs.declared.input.InputFault.TheVariants as input
-use Rattle.escpos_jobs.specs.declared.input.TheConstants.{INPUT_LIMIT}
-use Rattle.escpos_jobs.specs.declared.status.Status.{Status}
-use Rattle.escpos_jobs.specs.declared.status.Status.TheVariants.{Device, Memory, Refused}
-use Rattle.escpos_jobs.specs.Ending.{PrintsText, memory_line}
+use Rattle.escpos_job_parts.specs.declared.input.InputFault.TheVariants as input
+use Rattle.escpos_job_parts.specs.declared.input.TheConstants.{INPUT_LIMIT}
+use Rattle.escpos_job_parts.specs.declared.status.Status.{Status}
+use Rattle.escpos_job_parts.specs.declared.status.Status.TheVariants.{Device, Memory, Refused}
+use Rattle.escpos_job_parts.specs.Ending.{PrintsText, memory_line}
 use Rattle.escpos_stream.specs.declared.fault.StreamError.TheVariants as error
 use Rattle.escpos_stream.specs.declared.fault.StreamFault.{StreamFault}
 use Rattle.escpos_stream.specs.Streams.{IsStreamFault}

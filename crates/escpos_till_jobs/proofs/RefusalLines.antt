@@ -1,7 +1,7 @@
 -- The line of a refusal that has a number.
 use Rattle.std.proofs.Common.{ℕ, ◌≡◌, List, sym, subst, subst₂}
-use Rattle.escpos_jobs.specs.declared.status.Status.TheVariants.{Refused}
-use Rattle.escpos_jobs.specs.Ending.{JobEnd, Tells}
+use Rattle.escpos_job_parts.specs.declared.status.Status.TheVariants.{Refused}
+use Rattle.escpos_job_parts.specs.Ending.{JobEnd, Tells}
 use Rattle.escpos_till.specs.declared.note.TillRefusal.{TillRefusal}
 use Rattle.escpos_till_jobs.specs.Lines.{refusal_status, refusal_text}
 

@@ -1,9 +1,9 @@
 -- One more receipt is recorded and told; and rounds are calls that were served.
 use Rattle.std.proofs.Common.{true, false, ◌≡◌, ℕ, ◌+◌, List, [], ◌∷◌, ◌++◌, length, inl, inr, refl, sym, ◌∙◌, ap, subst, length-append}
 use Rattle.std.proofs.KnownBytes.{Appends-trans}
-use Rattle.escpos_jobs.specs.Ending.{Tells}
-use Rattle.escpos_jobs.specs.declared.status.Status.{Status}
-use Rattle.escpos_jobs.specs.declared.status.Status.TheVariants.{Device, Good}
+use Rattle.escpos_job_parts.specs.Ending.{Tells}
+use Rattle.escpos_job_parts.specs.declared.status.Status.{Status}
+use Rattle.escpos_job_parts.specs.declared.status.Status.TheVariants.{Device, Good}
 use Rattle.escpos_till.specs.declared.note.TillNote.{TillNote}
 use Rattle.escpos_till.specs.declared.note.TillNote.TheVariants as note
 use Rattle.escpos_till.specs.Driver.{Deed, ServesAll}

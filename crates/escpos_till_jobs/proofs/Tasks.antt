@@ -1,14 +1,14 @@
 -- Why an input gives no receipt, as it is told.
 use Rattle.std.proofs.Common.{ℕ, Bool, ◌≡◌, ◌⊎◌, inl, inr, Option, List, refl}
 use Rattle.std.specs.Prelude.{IfSome, IsTrue, codes, length, ◌≤◌, ◌<◌}
-use Rattle.escpos_jobs.specs.declared.input.InputFault.TheVariants as input
-use Rattle.escpos_jobs.specs.declared.input.TheConstants.{INPUT_LIMIT}
-use Rattle.escpos_jobs.specs.declared.receipt_input.NoReceipt.{NoReceipt}
-use Rattle.escpos_jobs.specs.declared.receipt_input.NoReceipt.TheVariants as none
-use Rattle.escpos_jobs.specs.declared.status.Status.{Status}
-use Rattle.escpos_jobs.specs.declared.status.Status.TheVariants.{Device, Memory, Refused}
-use Rattle.escpos_jobs.specs.Ending.{PrintsText, memory_line}
-use Rattle.escpos_jobs.specs.Refusal.{refusal_line}
+use Rattle.escpos_job_parts.specs.declared.input.InputFault.TheVariants as input
+use Rattle.escpos_job_parts.specs.declared.input.TheConstants.{INPUT_LIMIT}
+use Rattle.escpos_job_parts.specs.declared.receipt_input.NoReceipt.{NoReceipt}
+use Rattle.escpos_job_parts.specs.declared.receipt_input.NoReceipt.TheVariants as none
+use Rattle.escpos_job_parts.specs.declared.status.Status.{Status}
+use Rattle.escpos_job_parts.specs.declared.status.Status.TheVariants.{Device, Memory, Refused}
+use Rattle.escpos_job_parts.specs.Ending.{PrintsText, memory_line}
+use Rattle.escpos_job_parts.specs.Refusal.{refusal_line}
 use Rattle.escpos_receipt.specs.declared.json.JsonError.TheVariants as json
 use Rattle.escpos_receipt.specs.declared.json.JsonFault.{JsonFault}
 use Rattle.escpos_receipt.specs.declared.options.ReceiptOptions.{ReceiptOptions}

@@ -1,8 +1,8 @@
 -- What `queue --again` does: a receipt that was taken is taken once more.
 use Rattle.std.specs.Prelude.{ℕ, ◌≡◌, ◌⊎◌, ◌<◌, ◌≤◌, None, Some, List, [], codes, slice_get}
-use Rattle.escpos_jobs.specs.declared.status.Status.TheVariants.{Memory, Refused}
-use Rattle.escpos_jobs.specs.Ending.{JobEnd, PrintsText, Tells, memory_line}
-use Rattle.escpos_jobs.specs.Refusal.{refusal_line}
+use Rattle.escpos_job_parts.specs.declared.status.Status.TheVariants.{Memory, Refused}
+use Rattle.escpos_job_parts.specs.Ending.{JobEnd, PrintsText, Tells, memory_line}
+use Rattle.escpos_job_parts.specs.Refusal.{refusal_line}
 use Rattle.escpos_receipt.specs.declared.json.JsonError.TheVariants as json
 use Rattle.escpos_till.specs.declared.entry.Content.{Content}
 use Rattle.escpos_till.specs.declared.entry.Entry.{Entry}

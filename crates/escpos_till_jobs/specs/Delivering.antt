@@ -1,9 +1,9 @@
 -- What `deliver` does with the receipts that wait, and what it prints of them.
 use Rattle.std.specs.Prelude.{ℕ, true, ◌≡◌, ◌⊎◌, List, [], ◌∷◌, ◌++◌, length, map, IsTrue}
-use Rattle.escpos_jobs.specs.declared.send.TheConstants.{ANSWERS_LIMIT}
-use Rattle.escpos_jobs.specs.declared.status.Status.{Status}
-use Rattle.escpos_jobs.specs.declared.status.Status.TheVariants.{Good, Device}
-use Rattle.escpos_jobs.specs.Ending.{Tells}
+use Rattle.escpos_tcp_jobs.specs.declared.send.TheConstants.{ANSWERS_LIMIT}
+use Rattle.escpos_job_parts.specs.declared.status.Status.{Status}
+use Rattle.escpos_job_parts.specs.declared.status.Status.TheVariants.{Good, Device}
+use Rattle.escpos_job_parts.specs.Ending.{Tells}
 use Rattle.escpos_till.specs.declared.note.TillNote.{TillNote}
 use Rattle.escpos_till.specs.declared.note.TillRefusal.{TillRefusal}
 use Rattle.escpos_till.specs.Driver.{Answered, Call, Deed, Deliver, Serves}

@@ -2,10 +2,10 @@
 use Rattle.std.specs.Prelude.{ℕ, ◌==◌, if◌then◌else◌, ◌+◌, List, [], ◌∷◌, ◌++◌, codes, decimal}
 use Rattle.escpos_command.specs.declared.bytes.TheConstants.{LF}
 use Rattle.escpos_host.specs.Refusals.{fault_name}
-use Rattle.escpos_jobs.specs.declared.status.Status.{Status}
-use Rattle.escpos_jobs.specs.declared.status.Status.TheVariants.{Good, Refused, Device, Memory}
-use Rattle.escpos_jobs.specs.Ending.{memory_line}
-use Rattle.escpos_jobs.specs.Send.{is_memory_fault, status_of_fault}
+use Rattle.escpos_job_parts.specs.declared.status.Status.{Status}
+use Rattle.escpos_job_parts.specs.declared.status.Status.TheVariants.{Good, Refused, Device, Memory}
+use Rattle.escpos_job_parts.specs.Ending.{memory_line}
+use Rattle.escpos_tcp_jobs.specs.Send.{is_memory_fault, status_of_fault}
 use Rattle.escpos_receipt.specs.Refusals.{json_name}
 use Rattle.escpos_till.specs.declared.entry.Entry.{Entry}
 use Rattle.escpos_till.specs.declared.note.TillNote.{TillNote}

@@ -3,7 +3,7 @@ use Rattle.std.specs.Prelude.{ℕ, Bool, false, ◌≡◌, ◌≢◌, ◌≤◌,
 use Rattle.std.specs.Io.KnownBytes.{Appends, Consumes}
 use Rattle.escpos_host.specs.declared.send.SendFault.{SendFault}
 use Rattle.escpos_host.specs.declared.send.SendFault.TheVariants as fault
-use Rattle.escpos_jobs.specs.declared.address.Address.{Address}
+use Rattle.escpos_addresses.specs.declared.address.Address.{Address}
 use Rattle.escpos_till.specs.Driver.{Breaks, Deed, Ends, Gives, HangsUp, Links, Misses, Puts}
 use Rattle.escpos_till_jobs.specs.declared.link_line.AtAddress.{AtAddress}
 use Rattle.escpos_till_jobs.specs.declared.link_line.Link.{Link}

@@ -1,7 +1,7 @@
 -- What came of a call of a till's machine.
 use Rattle.std.specs.Prelude.{ℕ, ◌≡◌, ◌≢◌, ◌⊎◌, Option, Some, None, List, IsTrue}
-use Rattle.escpos_jobs.specs.declared.status.Status.TheVariants.{Good, Device}
-use Rattle.escpos_jobs.specs.Ending.{JobEnd, Tells}
+use Rattle.escpos_job_parts.specs.declared.status.Status.TheVariants.{Good, Device}
+use Rattle.escpos_job_parts.specs.Ending.{JobEnd, Tells}
 use Rattle.escpos_till.specs.declared.entry.Entry.{Entry}
 use Rattle.escpos_till.specs.declared.note.TillNote.{TillNote}
 use Rattle.escpos_till.specs.declared.note.TillNote.TheVariants as note

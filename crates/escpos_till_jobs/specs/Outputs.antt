@@ -1,8 +1,8 @@
 -- What is known of the output of a word.
 use Rattle.std.specs.Prelude.{ℕ, Bool, Option, List, IsTrue}
 use Rattle.std.specs.Io.KnownBytes.{Appends}
-use Rattle.escpos_jobs.specs.declared.status.Status.{Status}
-use Rattle.escpos_jobs.specs.Ending.{JobEnd, job_end}
+use Rattle.escpos_job_parts.specs.declared.status.Status.{Status}
+use Rattle.escpos_job_parts.specs.Ending.{JobEnd, job_end}
 
 -- The bytes that an output has taken, where it can name them, and whether it has failed.
 pub record Output : Type 0 where

@@ -1,13 +1,13 @@
 -- What `queue --raw` does: a stream of bytes, as another library makes it, is taken as a receipt.
 use Rattle.std.specs.Prelude.{ℕ, Bool, ◌≡◌, ◌⊎◌, ◌<◌, ◌≤◌, List, [], ◌∷◌, ◌++◌, Option, codes, decimal, length, IfSome, IsTrue}
 use Rattle.escpos_command.specs.declared.bytes.TheConstants.{LF}
-use Rattle.escpos_jobs.specs.declared.input.TheConstants.{INPUT_LIMIT}
-use Rattle.escpos_jobs.specs.declared.input.InputFault.TheVariants as input
-use Rattle.escpos_jobs.specs.declared.lines.TheConstants.{SPACE}
-use Rattle.escpos_jobs.specs.declared.status.Status.{Status}
-use Rattle.escpos_jobs.specs.declared.status.Status.TheVariants.{Device, Memory, Refused}
-use Rattle.escpos_jobs.specs.Ending.{PrintsText, memory_line}
-use Rattle.escpos_jobs.specs.Refusal.{place_text}
+use Rattle.escpos_job_parts.specs.declared.input.TheConstants.{INPUT_LIMIT}
+use Rattle.escpos_job_parts.specs.declared.input.InputFault.TheVariants as input
+use Rattle.escpos_job_parts.specs.declared.lines.TheConstants.{SPACE}
+use Rattle.escpos_job_parts.specs.declared.status.Status.{Status}
+use Rattle.escpos_job_parts.specs.declared.status.Status.TheVariants.{Device, Memory, Refused}
+use Rattle.escpos_job_parts.specs.Ending.{PrintsText, memory_line}
+use Rattle.escpos_job_parts.specs.Refusal.{place_text}
 use Rattle.escpos_stream.specs.declared.fault.StreamError.TheVariants as error
 use Rattle.escpos_stream.specs.declared.fault.StreamFault.{StreamFault}
 use Rattle.escpos_stream.specs.Refusals.{stream_name, stream_number, stream_place}

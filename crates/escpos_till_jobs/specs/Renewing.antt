@@ -1,8 +1,8 @@
 -- What `ledger --renew` does: a new ledger goes on from an older one, which isn't written any more.
 use Rattle.std.specs.Prelude.{ℕ, Bool, true, false, ◌≡◌, ◌⊎◌, List, [], ◌∷◌, ◌++◌, count_by, Result, Ok, Err, codes}
-use Rattle.escpos_jobs.specs.declared.status.Status.{Status}
-use Rattle.escpos_jobs.specs.declared.status.Status.TheVariants.{Good, Refused}
-use Rattle.escpos_jobs.specs.Ending.{Tells}
+use Rattle.escpos_job_parts.specs.declared.status.Status.{Status}
+use Rattle.escpos_job_parts.specs.declared.status.Status.TheVariants.{Good, Refused}
+use Rattle.escpos_job_parts.specs.Ending.{Tells}
 use Rattle.escpos_till.specs.declared.entry.Entry.{Entry}
 use Rattle.escpos_till.specs.declared.state.ReceiptState.{ReceiptState}
 use Rattle.escpos_till.specs.declared.state.ReceiptState.TheVariants as state

@@ -1,7 +1,7 @@
 -- What a word does with a store, and with a ledger at a path.
 use Rattle.std.specs.Prelude.{ℕ, ◌≡◌, ◌≢◌, ◌⊎◌, List, [], Result, Ok, Err}
-use Rattle.escpos_jobs.specs.declared.status.Status.{Status}
-use Rattle.escpos_jobs.specs.Ending.{Tells}
+use Rattle.escpos_job_parts.specs.declared.status.Status.{Status}
+use Rattle.escpos_job_parts.specs.Ending.{Tells}
 use Rattle.escpos_till.specs.declared.entry.Entry.{Entry}
 use Rattle.escpos_till.specs.declared.store.NoStore.{NoStore}
 use Rattle.escpos_till.specs.declared.store.NoStore.TheVariants as none

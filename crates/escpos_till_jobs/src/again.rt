@@ -1,7 +1,7 @@
 //! `queue --again`: a receipt that a ledger has taken is taken once more.
 
 ghost use Rattle.std.specs.Prelude.{◌≡◌, ◌≢◌, ◌≤◌, List, length, slice_get, None, Some, IfErr, IfOk, IsErrOf, IsTrue, MatchOption};
-ghost use Rattle.escpos_jobs.specs.Ending.{job_end};
+ghost use Rattle.escpos_job_parts.specs.Ending.{job_end};
 ghost use Rattle.escpos_till.specs.Contents.{GivesReceipt};
 ghost use Rattle.escpos_till.specs.Delivers.{WhyNone};
 ghost use Rattle.escpos_till.specs.Entries.{content_of, contents, earlier};
@@ -10,8 +10,8 @@ ghost use Rattle.escpos_till_jobs.specs.Again.{HasContent, HasNone, QueuesAgain,
 use crate::outcome::{Outcome, tell};
 use crate::queue::queue_receipt;
 use escpos_io::ByteOut;
-use escpos_jobs::receipt_input::refuse_text;
-use escpos_jobs::status::Status;
+use escpos_job_parts::receipt_input::refuse_text;
+use escpos_job_parts::status::Status;
 use escpos_receipt::JsonError;
 use escpos_till::{
     Content, Entry, PrinterLine, ReceiptContent, ReceiptNumber, Store, Surroundings, TillMachine,

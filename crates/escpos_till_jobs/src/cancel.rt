@@ -1,7 +1,7 @@
 //! `cancel`: a receipt of a ledger that waits is taken back.
 
 ghost use Rattle.std.specs.Prelude.{◌≡◌, ◌≢◌, IsTrue};
-ghost use Rattle.escpos_jobs.specs.Ending.{job_end};
+ghost use Rattle.escpos_job_parts.specs.Ending.{job_end};
 ghost use Rattle.escpos_till.specs.Driver.{Cancel};
 ghost use Rattle.escpos_till.specs.Machine.{RefusesCancel};
 ghost use Rattle.escpos_till.specs.Surroundings.{Did};
@@ -10,7 +10,7 @@ ghost use Rattle.escpos_till_jobs.specs.Outcomes.{Becomes, BecomesAndTells};
 use crate::following::follow;
 use crate::outcome::{Outcome, tell};
 use escpos_io::ByteOut;
-use escpos_jobs::status::Status;
+use escpos_job_parts::status::Status;
 use escpos_till::{PrinterLine, ReceiptNumber, Store, Surroundings, TillMachine};
 
 /// Cancels a receipt that waits, and prints `cancelled N`, with its number, once that would outlive a crash. If the receipt was

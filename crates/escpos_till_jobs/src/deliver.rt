@@ -12,10 +12,10 @@ ghost use Rattle.escpos_till_jobs.specs.News.{BecomesTelling};
 
 use crate::following::{Followed, follow_telling};
 use crate::outcome::{Outcome, tell, tell_if_settled};
+use escpos_addresses::address::Address;
 use escpos_io::ByteOut;
-use escpos_jobs::address::Address;
-use escpos_jobs::send::ANSWERS_LIMIT;
-use escpos_jobs::status::Status;
+use escpos_job_parts::status::Status;
+use escpos_tcp_jobs::send::ANSWERS_LIMIT;
 use escpos_till::{CopyText, PrinterLine, Store, Surroundings, TillMachine};
 
 /// The most receipts that one delivery tells of: more than a ledger takes.

@@ -1,14 +1,14 @@
 //! How lines to printers are made: over a network, a line for each address.
 
 ghost use Rattle.std.specs.Prelude.{◌≡◌, None};
-ghost use Rattle.escpos_jobs.specs.declared.address.Address.{Address as Where};
+ghost use Rattle.escpos_addresses.specs.declared.address.Address.{Address as Where};
 ghost use Rattle.escpos_till_jobs.specs.declared.link_line.Waits.{Waits as HowLong};
 ghost use Rattle.escpos_till_jobs.specs.LinkLine.{Dials};
 
 use crate::link_line::{AtAddress, LinkLine, Waits};
+use escpos_addresses::address::Address;
+use escpos_addresses::printer_link::{LinkReader, LinkWriter, Printers};
 use escpos_io::{Incoming, Outgoing};
-use escpos_jobs::address::Address;
-use escpos_jobs::printer_link::{LinkReader, LinkWriter, Printers};
 
 /// How lines to printers are made.
 pub trait Lines<L> {

@@ -9,11 +9,11 @@ ghost use Rattle.escpos_till_jobs.specs.declared.link_line.Link.{Link as Opened}
 ghost use Rattle.escpos_till_jobs.specs.LinkLine.{Dials, DialsTheSame, HasNoLink, IsPaced, LinkDid, OverLink, sink, source};
 
 use crate::watched::Watched;
+use escpos_addresses::address::Address;
+use escpos_addresses::printer_link::{LinkReader, LinkWriter, PrinterLink, Printers};
+use escpos_addresses::wait::Within;
 use escpos_host::SendFault;
 use escpos_io::{ByteIn, ByteOut, Failed, Incoming, Outgoing, put_all};
-use escpos_jobs::address::Address;
-use escpos_jobs::printer_link::{LinkReader, LinkWriter, PrinterLink, Printers};
-use escpos_jobs::wait::Within;
 use escpos_till::PrinterLine;
 use std::time::Duration;
 

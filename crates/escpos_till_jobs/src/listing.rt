@@ -3,7 +3,7 @@
 ghost use Rattle.std.specs.Prelude.{◌≡◌, ◌≢◌, ◌+◌, ◌^◌, ◌<◌, ◌≤◌, ◌++◌, ◌⊎◌, List, [], ◌∷◌, length, decimal, IsTrue};
 ghost use Rattle.escpos_io.specs.Giving.{IsGiven};
 ghost use Rattle.escpos_io.specs.Putting.{passage};
-ghost use Rattle.escpos_jobs.specs.Ending.{Tells, job_end};
+ghost use Rattle.escpos_job_parts.specs.Ending.{Tells, job_end};
 ghost use Rattle.escpos_till.specs.Driver.{Raise};
 ghost use Rattle.escpos_till.specs.Machine.{RefusesRaise};
 ghost use Rattle.escpos_till.specs.Surroundings.{Did};
@@ -14,7 +14,7 @@ use crate::following::follow;
 use crate::outcome::{Outcome, tell};
 use escpos_command::LF;
 use escpos_io::{ByteOut, Device, GATHERED_BYTES, Gather, append_number, laws};
-use escpos_jobs::status::Status;
+use escpos_job_parts::status::Status;
 use escpos_till::{PrinterLine, ReceiptState, Store, Surroundings, TillMachine, TillNote};
 
 // More bytes than a line has.

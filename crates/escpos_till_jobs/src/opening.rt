@@ -1,7 +1,7 @@
 //! Opening a ledger, and what is printed if there is none.
 
 ghost use Rattle.std.specs.Prelude.{◌≡◌, ◌≢◌, Err, List, [], IfErr, IfOk, OnErr, IsErrOf, IsTrue};
-ghost use Rattle.escpos_jobs.specs.Ending.{Tells, job_end};
+ghost use Rattle.escpos_job_parts.specs.Ending.{Tells, job_end};
 ghost use Rattle.escpos_till.specs.declared.entry.Entry.{Entry};
 ghost use Rattle.escpos_till.specs.Entries.{IsLedger};
 ghost use Rattle.escpos_till_jobs.specs.Lines.{no_store_line, no_store_status};
@@ -9,8 +9,8 @@ ghost use Rattle.escpos_till_jobs.specs.Opening.{Opens};
 
 use crate::outcome::{LEDGER_FAILED, tell_text};
 use escpos_io::ByteOut;
-use escpos_jobs::ending::MEMORY;
-use escpos_jobs::status::Status;
+use escpos_job_parts::ending::MEMORY;
+use escpos_job_parts::status::Status;
 use escpos_till::{NoMachine, NoStore, Store, StoreFault, TillMachine};
 use std::alloc::Global;
 

@@ -2,16 +2,16 @@
 
 ghost use Rattle.std.specs.Prelude.{ℕ, ◌≡◌, ◌≢◌, ◌+◌, ◌≤◌, ◌++◌, [], ◌∷◌, decimal, length, IfErr, OnOk, IsTrue};
 ghost use Rattle.std.specs.Io.KnownBytes.{Appends};
-ghost use Rattle.escpos_jobs.specs.Ending.{Tells, job_end};
+ghost use Rattle.escpos_job_parts.specs.Ending.{Tells, job_end};
 ghost use Rattle.escpos_till_jobs.specs.Lines.{cancelled_line, note_line, note_status, number_line, outcome_line, outcome_status, refusal_status, refusal_text, waiting_line};
 ghost use Rattle.escpos_till_jobs.specs.Outcomes.{NoteEnds, Settles};
 
 use escpos_command::LF;
 use escpos_host::SendFault;
 use escpos_io::{ByteOut, Gather, append_number, laws, put_all};
-use escpos_jobs::ending::MEMORY;
-use escpos_jobs::send::{is_memory_fault, status_of_fault};
-use escpos_jobs::status::Status;
+use escpos_job_parts::ending::MEMORY;
+use escpos_job_parts::status::Status;
+use escpos_tcp_jobs::send::{is_memory_fault, status_of_fault};
 use escpos_till::{StoreFault, TillNote, TillRefusal};
 
 /// What is printed where the store of a ledger failed.

@@ -3,7 +3,7 @@
 //! Where ledgers are kept, and how lines to printers are made, is given: the program gives its files and its network.
 
 ghost use Rattle.std.specs.Prelude.{◌≡◌, ◌≢◌, ◌+◌, ◌≤◌, ℕ, List, Result, IsTrue};
-ghost use Rattle.escpos_jobs.specs.declared.input.TheConstants.{INPUT_LIMIT};
+ghost use Rattle.escpos_job_parts.specs.declared.input.TheConstants.{INPUT_LIMIT};
 ghost use Rattle.escpos_till.specs.declared.store.NoStore.{NoStore as WhyNone};
 ghost use Rattle.escpos_till_jobs.specs.Outputs.{output_of};
 ghost use Rattle.escpos_till_jobs.specs.Performing.{CancelsAt, DeliversAt, IfShared, ListsAt, OfCancel, OfDeliver, OfList, OfQueue, OfQueueAgain, OfQueueRaw, OfReading, OfRenew, QueuesAgainAt, QueuesAt, UnlessDeliver, UnlessReading, UnlessRenew, UnlessShared, way};
@@ -21,8 +21,8 @@ use crate::renew::{NewLedgers, renew_ledger};
 use crate::task::{LedgerPath, TillTask};
 use crate::word::{Word, do_with};
 use escpos_io::{ByteIn, ByteOut};
-use escpos_jobs::receipt_input::refuse_input;
-use escpos_jobs::status::Status;
+use escpos_job_parts::receipt_input::refuse_input;
+use escpos_job_parts::status::Status;
 use escpos_till::{NoStore, PrinterLine, Store, Surroundings};
 use std::alloc::Global;
 

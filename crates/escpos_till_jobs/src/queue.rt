@@ -1,10 +1,10 @@
 //! `queue`: a receipt is taken into a ledger.
 
 ghost use Rattle.std.specs.Prelude.{◌≡◌, ◌≢◌, ◌+◌, ◌<◌, ◌≤◌, List, length, IfOk, IfSome, IsErrOf, IsTrue};
-ghost use Rattle.escpos_jobs.specs.declared.input.TheConstants.{INPUT_LIMIT};
-ghost use Rattle.escpos_jobs.specs.declared.input.InputFault.{InputFault};
-ghost use Rattle.escpos_jobs.specs.declared.receipt_input.NoReceipt.{NoReceipt};
-ghost use Rattle.escpos_jobs.specs.Ending.{job_end};
+ghost use Rattle.escpos_job_parts.specs.declared.input.TheConstants.{INPUT_LIMIT};
+ghost use Rattle.escpos_job_parts.specs.declared.input.InputFault.{InputFault};
+ghost use Rattle.escpos_job_parts.specs.declared.receipt_input.NoReceipt.{NoReceipt};
+ghost use Rattle.escpos_job_parts.specs.Ending.{job_end};
 ghost use Rattle.escpos_receipt.specs.declared.json.JsonError.{JsonError};
 ghost use Rattle.escpos_receipt.specs.declared.json.JsonFault.{JsonFault};
 ghost use Rattle.escpos_receipt.specs.Describes.{IsFaultWith};
@@ -17,9 +17,9 @@ ghost use Rattle.escpos_till_jobs.specs.Outcomes.{Becomes, BecomesAndTells};
 use crate::following::follow;
 use crate::outcome::{Outcome, tell};
 use escpos_io::{ByteIn, ByteOut, read_to_end};
-use escpos_jobs::input::INPUT_LIMIT;
-use escpos_jobs::receipt_input::NoReceipt;
-use escpos_jobs::status::Status;
+use escpos_job_parts::input::INPUT_LIMIT;
+use escpos_job_parts::receipt_input::NoReceipt;
+use escpos_job_parts::status::Status;
 use escpos_receipt::ReceiptOptions;
 use escpos_till::{PrinterLine, ReceiptContent, ReceiptKey, Store, Surroundings, TillMachine};
 use std::alloc::Global;

@@ -1,22 +1,22 @@
 //! `queue --raw`: a stream of bytes, as another library makes it, is read as a receipt.
 
 ghost use Rattle.std.specs.Prelude.{◌≡◌, ◌≢◌, ◌⊎◌, ◌+◌, ◌<◌, ◌≤◌, ◌++◌, length, codes, IfOk, IfSome, IsErrOf, IsTrue};
-ghost use Rattle.escpos_jobs.specs.declared.input.TheConstants.{INPUT_LIMIT};
-ghost use Rattle.escpos_jobs.specs.declared.input.InputFault.{InputFault};
-ghost use Rattle.escpos_jobs.specs.Ending.{PrintsText, job_end, memory_line};
+ghost use Rattle.escpos_job_parts.specs.declared.input.TheConstants.{INPUT_LIMIT};
+ghost use Rattle.escpos_job_parts.specs.declared.input.InputFault.{InputFault};
+ghost use Rattle.escpos_job_parts.specs.Ending.{PrintsText, job_end, memory_line};
 ghost use Rattle.escpos_stream.specs.declared.fault.StreamError.{StreamError};
 ghost use Rattle.escpos_stream.specs.declared.fault.StreamFault.{StreamFault};
 ghost use Rattle.escpos_stream.specs.Streams.{IsStreamFault};
 ghost use Rattle.escpos_till.specs.Contents.{GivesReceipt, StreamIsReceipt, content_of_stream};
-ghost use Rattle.escpos_jobs.specs.Refusal.{place_text};
+ghost use Rattle.escpos_job_parts.specs.Refusal.{place_text};
 ghost use Rattle.escpos_till_jobs.specs.declared.raw.NoStream.{NoStream};
 ghost use Rattle.escpos_till_jobs.specs.Raw.{stream_line};
 
 use escpos_command::{LF, LineWidth};
 use escpos_io::{ByteIn, ByteOut, GATHERED_BYTES, Gather, append_number, laws};
-use escpos_jobs::ending::{MEMORY, refuse, say};
-use escpos_jobs::input::{INPUT_LIMIT, InputFault, raw_input};
-use escpos_jobs::status::Status;
+use escpos_job_parts::ending::{MEMORY, refuse, say};
+use escpos_job_parts::input::{INPUT_LIMIT, InputFault, raw_input};
+use escpos_job_parts::status::Status;
 use escpos_stream::{StreamError, StreamFault};
 use escpos_till::ReceiptContent;
 use std::alloc::Global;

@@ -4,7 +4,7 @@
 //! twice: so it is no ledger any more, and nobody delivers or takes a receipt with it.
 
 ghost use Rattle.std.specs.Prelude.{◌≡◌, ◌≢◌, ℕ, List, Result, IfErr, IfOk, IsErrOf, OnErr, OnOk, IsTrue, count_by, option_map};
-ghost use Rattle.escpos_jobs.specs.Ending.{Tells, job_end};
+ghost use Rattle.escpos_job_parts.specs.Ending.{Tells, job_end};
 ghost use Rattle.escpos_till.specs.Appending.{added};
 ghost use Rattle.escpos_till.specs.Entries.{IsLedger};
 ghost use Rattle.escpos_till_jobs.specs.Outputs.{output_of};
@@ -16,7 +16,7 @@ use crate::outcome::{tell_number, tell_text};
 use crate::perform::Ledgers;
 use crate::task::LedgerPath;
 use escpos_io::ByteOut;
-use escpos_jobs::status::Status;
+use escpos_job_parts::status::Status;
 use escpos_till::{
     Appended, Entry, NoMachine, NoStore, NotRenewed, ReceiptState, Store, StoreFault, TillMachine,
     renewed,

@@ -3,9 +3,9 @@
 //! While a printer is waited for, a ledger is let go, so that others may add entries to it; where no wait is needed, that would only cost time.
 
 ghost use Rattle.std.specs.Prelude.{◌≡◌, false};
-ghost use Rattle.escpos_jobs.specs.declared.device_file.DeviceEnd.{DeviceEnd};
+ghost use Rattle.escpos_addresses.specs.declared.device_file.DeviceEnd.{DeviceEnd};
 
-use escpos_jobs::printer_link::LinkReader;
+use escpos_addresses::printer_link::LinkReader;
 use libc::net::{POLLIN, POLLOUT, poll};
 use libc::types::pollfd;
 use std::os::fd::AsRawFd;

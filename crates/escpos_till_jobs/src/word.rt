@@ -11,7 +11,7 @@ use crate::listing::list;
 use crate::opening::{open_machine, refuse_store};
 use crate::queue::queue_receipt;
 use escpos_io::ByteOut;
-use escpos_jobs::status::Status;
+use escpos_job_parts::status::Status;
 use escpos_till::{
     PrinterLine, ReceiptContent, ReceiptKey, ReceiptNumber, Store, Surroundings, TillMachine,
 };

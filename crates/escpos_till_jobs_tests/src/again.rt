@@ -3,7 +3,7 @@
 use crate::support::tills::{Plain, S, Told, done_with, is_told, number, store_of};
 use escpos_command::LineWidth;
 use escpos_io::MemoryOut;
-use escpos_jobs::status::Status;
+use escpos_job_parts::status::Status;
 use escpos_receipt::ReceiptOptions;
 use escpos_text::Replacement;
 use escpos_till::{Content, Entry, Failure, MemoryStore};

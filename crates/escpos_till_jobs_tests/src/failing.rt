@@ -2,7 +2,7 @@
 
 use crate::support::tills::{FAILED, Told, delivery_to, is_told, number, printer_address, receipt};
 use escpos_io::MemoryOut;
-use escpos_jobs::status::Status;
+use escpos_job_parts::status::Status;
 use escpos_till::{Failure, MemoryStore, Surroundings, TillMachine};
 use escpos_till_jobs::{
     NoLine, cancel_receipt, deliver_waiting, list, open_machine, queue_receipt,

@@ -5,7 +5,7 @@ use crate::support::tills::{
 };
 use escpos_command::LineWidth;
 use escpos_io::{MemoryIn, MemoryOut};
-use escpos_jobs::status::Status;
+use escpos_job_parts::status::Status;
 use escpos_till::{MemoryStore, ReceiptContent};
 use escpos_till_jobs::{NoLine, Word, read_raw, refuse_raw};
 use std::alloc::Global;

@@ -2,7 +2,7 @@
 
 use crate::support::tills::{NewLedger, OneLedger, Plain, Told, is_told, performed_with, store_of};
 use escpos_io::{MemoryIn, MemoryOut};
-use escpos_jobs::status::Status;
+use escpos_job_parts::status::Status;
 use escpos_till_jobs::{LedgerPath, TillTask};
 use std::alloc::Global;
 use std::process::Abort;

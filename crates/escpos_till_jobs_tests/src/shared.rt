@@ -6,7 +6,7 @@ use crate::support::tills::{
     BusyLedger, FAILED, Plain, Told, busy, delivery_to, is_told, printer_address, watched_line_over,
 };
 use escpos_io::MemoryOut;
-use escpos_jobs::status::Status;
+use escpos_job_parts::status::Status;
 use escpos_till::{Entry, Failure, MemoryStore, Store, StoreFault, Surroundings};
 use escpos_till_jobs::{LedgerPath, SharedStore, Word, do_with};
 use std::alloc::Global;

@@ -5,7 +5,7 @@ use crate::support::tills::{
 };
 use escpos_command::LineWidth;
 use escpos_io::{MemoryIn, MemoryOut};
-use escpos_jobs::status::Status;
+use escpos_job_parts::status::Status;
 use escpos_receipt::ReceiptOptions;
 use escpos_till::ReceiptKey;
 use escpos_till_jobs::{LedgerPath, TillTask};

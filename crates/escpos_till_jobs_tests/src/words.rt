@@ -6,11 +6,11 @@ use crate::support::tills::{
     A, FAILED, Plain, Prepared, S, Told, answered_link, delivery_to, done_with, is_told, line_over,
     listens, number, printer_address, receipt, store_of,
 };
+use escpos_addresses::printer_link::Printers;
 use escpos_command::LineWidth;
 use escpos_io::{MemoryIn, MemoryOut};
-use escpos_jobs::printer_link::Printers;
-use escpos_jobs::receipt_input::refuse_input;
-use escpos_jobs::status::Status;
+use escpos_job_parts::receipt_input::refuse_input;
+use escpos_job_parts::status::Status;
 use escpos_receipt::ReceiptOptions;
 use escpos_text::Replacement;
 use escpos_till::{CopyText, Entry, Failure, MemoryStore, NoStore, ReceiptKey};

@@ -3,8 +3,8 @@
 use crate::support::asking::printer;
 use escpos_arguments::task_of;
 use escpos_command::LineWidth;
-use escpos_jobs::condition::ONLINE;
-use escpos_jobs::form::Form;
+use escpos_job_parts::condition::ONLINE;
+use escpos_job_parts::form::Form;
 use escpos_jobs::task::{NoTask, Task};
 use escpos_receipt::ReceiptOptions;
 use std::alloc::Global;

@@ -1,7 +1,7 @@
 //! What arguments ask for; of a till's words, in a form that can be compared.
 
+use escpos_addresses::address::Address;
 use escpos_arguments::{task_of, till_task_of};
-use escpos_jobs::address::Address;
 use escpos_jobs::task::{NoTask, Task};
 use escpos_receipt::ReceiptOptions;
 use escpos_till_jobs::TillTask;

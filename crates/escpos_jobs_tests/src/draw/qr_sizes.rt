@@ -3,9 +3,9 @@
 use super::document;
 use escpos_command::LineWidth;
 use escpos_io::{MemoryIn, Outgoing};
-use escpos_jobs::draw::draw;
-use escpos_jobs::form::Form;
-use escpos_jobs::status::Status;
+use escpos_job_parts::form::Form;
+use escpos_job_parts::status::Status;
+use escpos_stream_jobs::draw::draw;
 use escpos_test_jobs::{draw_task, prints};
 use escpos_test_receipts::joined;
 use std::alloc::Global;

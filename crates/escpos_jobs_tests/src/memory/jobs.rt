@@ -6,14 +6,14 @@
 use escpos_command::LineWidth;
 use escpos_host::{JsonError, Receipt};
 use escpos_io::{ByteIn, MemoryIn, MemoryOut};
-use escpos_jobs::form::Form;
-use escpos_jobs::input::{InputFault, stream_input};
-use escpos_jobs::receipt_input::{NoReceipt, read_receipt};
-use escpos_jobs::script::{NoEvent, event_of};
-use escpos_jobs::status::Status;
+use escpos_job_parts::form::Form;
+use escpos_job_parts::input::{InputFault, stream_input};
+use escpos_job_parts::receipt_input::{NoReceipt, read_receipt};
+use escpos_job_parts::status::Status;
 use escpos_jobs::task::Task;
 use escpos_link::Event;
 use escpos_receipt::ReceiptOptions;
+use escpos_script::script::{NoEvent, event_of};
 use escpos_test_jobs::{
     NoNetwork, check_task, draw_task, encode_task, is_whole, raw_check_task, raw_encode_task,
     raw_render_task, render_task, render_text_task, run_job,
@@ -130,8 +130,8 @@ enum Job {
 
 fn do_job(alloc: Global, job: Job, source: &mut MemoryIn, sink: &mut MemoryOut) -> Status {
     match job {
-        Job::Check(form) => escpos_jobs::check::check(alloc, form, source, sink),
-        Job::Render(form) => escpos_jobs::render::render(
+        Job::Check(form) => escpos_stream_jobs::check::check(alloc, form, source, sink),
+        Job::Render(form) => escpos_stream_jobs::render::render(
             alloc,
             form,
             LineWidth::usual(),
@@ -139,18 +139,30 @@ fn do_job(alloc: Global, job: Job, source: &mut MemoryIn, sink: &mut MemoryOut) 
             sink,
         ),
         Job::RenderText(form) => {
-            escpos_jobs::render::render_text(alloc, form, LineWidth::usual(), source, sink)
+            escpos_stream_jobs::render::render_text(alloc, form, LineWidth::usual(), source, sink)
         }
-        Job::Draw(form) => escpos_jobs::draw::draw(alloc, form, LineWidth::usual(), source, sink),
-        Job::Encode(form) => escpos_jobs::encode::encode(
+        Job::Draw(form) => escpos_stream_jobs::draw::draw(
+            alloc,
+            form,
+            LineWidth::usual(),
+            source,
+            sink,
+        ),
+        Job::Encode(form) => escpos_stream_jobs::encode::encode(
             alloc,
             form,
             &ReceiptOptions::usual(),
             source,
             sink,
         ),
-        Job::Image => escpos_jobs::image::image(alloc, LineWidth::usual(), None, source, sink),
-        Job::Play => escpos_jobs::play::play(alloc, source, sink),
+        Job::Image => escpos_stream_jobs::image::image(
+            alloc,
+            LineWidth::usual(),
+            None,
+            source,
+            sink,
+        ),
+        Job::Play => escpos_script::play::play(alloc, source, sink),
         Job::Perform(task) => run_job(&NoNetwork, alloc, Ok(task), source, sink),
     }
 }

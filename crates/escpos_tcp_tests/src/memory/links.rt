@@ -4,18 +4,18 @@
 
 use crate::support::jobs::printer_at_last;
 use crate::support::sockets::{Prepared, answered_link, connects_and_says, listens};
+use escpos_addresses::printer_link::PrinterLink;
 use escpos_command::LineWidth;
 use escpos_host::Receipt;
 use escpos_io::{MemoryIn, MemoryOut};
-use escpos_jobs::condition::ONLINE;
-use escpos_jobs::ending::MEMORY;
-use escpos_jobs::paper_text::PaperText;
-use escpos_jobs::printer_link::PrinterLink;
-use escpos_jobs::send::{Marks, send_on, send_to};
-use escpos_jobs::status::Status;
+use escpos_job_parts::condition::ONLINE;
+use escpos_job_parts::ending::MEMORY;
+use escpos_job_parts::status::Status;
 use escpos_paper::Item;
 use escpos_printer::{LinkEnd, Printer, Served};
 use escpos_receipt::ReceiptOptions;
+use escpos_tcp_jobs::paper_text::PaperText;
+use escpos_tcp_jobs::send::{Marks, send_on, send_to};
 use escpos_test_jobs::is_whole;
 use escpos_test_receipts::{S, read_receipt, receipt_at_last};
 use std::alloc::Global;
@@ -57,7 +57,7 @@ fn serves_and_tells(rt: &impl Abort, printer: &mut Printer, paper: &mut PaperTex
     let mut reader = MemoryIn::new(EMULATED_BYTES, 512);
     let mut writer = MemoryOut::new(&mut room);
     let mut output = MemoryOut::new(&mut printed);
-    let served = escpos_jobs::emulate::serve_and_tell(
+    let served = escpos_tcp_jobs::emulate::serve_and_tell(
         printer,
         paper,
         1,
@@ -91,7 +91,7 @@ fn follows_link(rt: &impl Abort, alloc: Global, printer: &mut Printer) -> bool {
     let mut reader = MemoryIn::new(EMULATED_BYTES, 512);
     let mut writer = MemoryOut::new(&mut room);
     let mut output = MemoryOut::new(&mut printed);
-    let served = escpos_jobs::emulate::follow_link(
+    let served = escpos_tcp_jobs::emulate::follow_link(
         alloc,
         printer,
         1,
@@ -123,7 +123,7 @@ fn follow_link_refused(rt: HostRuntime) {
 fn follows_on(rt: &impl Abort, alloc: Global, listener: &TcpListener) -> bool {
     let mut room = [0; 256];
     let mut output = MemoryOut::new(&mut room);
-    let status = escpos_jobs::emulate::follow_on(
+    let status = escpos_tcp_jobs::emulate::follow_on(
         alloc,
         listener,
         ONLINE,
@@ -172,7 +172,7 @@ fn sends_once_over(rt: &impl Abort, alloc: Global, receipt: Receipt) -> bool {
         first: 0,
         openings: 1,
     };
-    let status = escpos_jobs::send::send_over(
+    let status = escpos_tcp_jobs::send::send_over(
         alloc,
         marks,
         receipt,
@@ -216,7 +216,7 @@ fn is_emulated(rt: &impl Abort, put: &[u8], status: Status) -> bool {
 fn emulates_on(rt: &impl Abort, alloc: Global, listener: &TcpListener) -> bool {
     let mut room = [0; 256];
     let mut output = MemoryOut::new(&mut room);
-    let status = escpos_jobs::emulate::emulate_on(
+    let status = escpos_tcp_jobs::emulate::emulate_on(
         alloc,
         listener,
         1,
@@ -240,13 +240,14 @@ fn emulate_on_refused(rt: HostRuntime) {
 fn emulates_at(rt: &impl Abort, alloc: Global, net: &Prepared, address: SocketAddrV4) -> bool {
     let mut room = [0; 256];
     let mut output = MemoryOut::new(&mut room);
-    let status = escpos_jobs::emulate::emulate(
+    let status = escpos_tcp_jobs::emulate::emulate(
         net,
         alloc,
         address.into(),
-        1,
+        Some(1),
         ONLINE,
         LineWidth::usual(),
+        None,
         &mut output,
     );
     is_emulated(rt, output.written(), status)
@@ -346,7 +347,7 @@ fn goes_round_once<N: Net<Stream = TcpStream, Listener = TcpListener> + Abort>(
     let mut room = [0; 64];
     let mut source = MemoryIn::new(S.0, 7);
     let mut output = MemoryOut::new(&mut room);
-    let status = escpos_jobs::loop_link::loop_receipt(
+    let status = escpos_tcp_jobs::loop_link::loop_receipt(
         rt,
         alloc,
         LineWidth::usual(),
@@ -370,7 +371,7 @@ fn ends_meet<N: Net<Stream = TcpStream, Listener = TcpListener> + Abort>(
     let receipt = receipt_at_last(alloc).expect(rt, "a receipt");
     let mut room = [0; 64];
     let mut output = MemoryOut::new(&mut room);
-    let status = escpos_jobs::loop_link::both_ends(
+    let status = escpos_tcp_jobs::loop_link::both_ends(
         rt,
         alloc,
         LineWidth::usual(),
@@ -398,7 +399,7 @@ fn meets<N: Net<Stream = TcpStream, Listener = TcpListener> + Abort>(
     let (far, _) = listener.accept().expect(rt, "no link");
     let mut room = [0; 64];
     let mut output = MemoryOut::new(&mut room);
-    let status = escpos_jobs::loop_link::both_ends_of(
+    let status = escpos_tcp_jobs::loop_link::both_ends_of(
         alloc,
         &near,
         &far,

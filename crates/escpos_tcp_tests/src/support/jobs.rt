@@ -1,8 +1,8 @@
 //! A job's outcome, and its printer.
 
 use escpos_command::LineWidth;
-use escpos_jobs::condition::ONLINE;
-use escpos_jobs::status::Status;
+use escpos_job_parts::condition::ONLINE;
+use escpos_job_parts::status::Status;
 use escpos_printer::Printer;
 use std::alloc::{AllocError, Global};
 use std::process::Abort;

@@ -1,6 +1,6 @@
 //! Both ends of a link over 127.0.0.1.
 
-use escpos_jobs::printer_link::Printers;
+use escpos_addresses::printer_link::Printers;
 use std::io;
 use std::io::{Read, Write};
 use std::net::{Net, Shutdown, SocketAddr, SocketAddrV4, TcpListener, TcpStream};

@@ -2,7 +2,7 @@
 
 use escpos_command::LineWidth;
 use escpos_io::{ByteIn, MemoryIn};
-use escpos_jobs::input::InputFault;
+use escpos_job_parts::input::InputFault;
 use escpos_receipt::{JsonError, Receipt};
 use escpos_stream::{StreamError, stream_receipt, with_init};
 use escpos_till::{Content, ReceiptContent};

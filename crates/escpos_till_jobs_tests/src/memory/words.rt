@@ -6,10 +6,10 @@ use crate::support::tills::{
     OneLedger, S, delivery_to, done_with, line_over, number, performed, printer_address,
 };
 use escpos_io::{ByteIn, MemoryIn, MemoryOut};
-use escpos_jobs::ending::MEMORY;
-use escpos_jobs::input::InputFault;
-use escpos_jobs::receipt_input::NoReceipt;
-use escpos_jobs::status::Status;
+use escpos_job_parts::ending::MEMORY;
+use escpos_job_parts::input::InputFault;
+use escpos_job_parts::receipt_input::NoReceipt;
+use escpos_job_parts::status::Status;
 use escpos_receipt::{JsonError, ReceiptOptions};
 use escpos_till::{
     Entry, Failure, MemoryStore, NoStore, ReceiptContent, ReceiptKey, ReceiptState, TillMachine,

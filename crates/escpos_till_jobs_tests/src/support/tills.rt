@@ -2,9 +2,9 @@
 
 ghost use Rattle.std.specs.Prelude.{◌≡◌};
 
+use escpos_addresses::printer_link::Printers;
 use escpos_io::{ByteIn, ByteOut, MemoryIn, MemoryOut};
-use escpos_jobs::printer_link::Printers;
-use escpos_jobs::status::Status;
+use escpos_job_parts::status::Status;
 use escpos_receipt::ReceiptOptions;
 use escpos_till::{
     Content, Entry, Failure, MemoryStore, NoStore, PrinterLine, ReceiptContent, ReceiptNumber,

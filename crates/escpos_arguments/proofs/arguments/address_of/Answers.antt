@@ -3,7 +3,7 @@ use Rattle.std.specs.Prelude.{IsSomeAnd}
 use Rattle.std.proofs.lemmas.Result.{IfOk-weaker}
 use Rattle.clap.specs.Words.{Text, found_of}
 use Rattle.clap.proofs.WalkLemmas.{first_value-rows}
-use Rattle.escpos_jobs.specs.Address.{IsAddress}
+use Rattle.escpos_addresses.specs.Address.{IsAddress}
 use Rattle.escpos_arguments.proofs.arguments.address_of.Goals as goal
 
 pub returns-in-Some-clause-read : goal.returns-in-Some-clause-read

@@ -2,7 +2,7 @@
 use Rattle.std.proofs.Common.{◌≡◌, ◌∙◌, Some, None, Ok, ap, refl, sym, subst, codes}
 use Rattle.clap.specs.Words.{found_of}
 use Rattle.clap.proofs.WalkLemmas.{first_value-rows}
-use Rattle.escpos_jobs.specs.Conditions.{online}
+use Rattle.escpos_job_parts.specs.Conditions.{online}
 use Rattle.escpos_arguments.specs.Arguments.{IsConditionOr}
 use Rattle.escpos_arguments.proofs.emulate.condition_or_online.Goals as goal
 

@@ -2,7 +2,7 @@ use Rattle.std.proofs.Common.{◌≡◌, ◌≤◌, ◌∙◌, Option, Some, Non
 use Rattle.std.specs.Prelude.{IfSome}
 use Rattle.clap.specs.Words.{Text, found_of}
 use Rattle.clap.proofs.WalkLemmas.{first_value-rows}
-use Rattle.escpos_jobs.specs.declared.address.TheConstants.{MOST_TEXT}
+use Rattle.escpos_addresses.specs.declared.address.TheConstants.{MOST_TEXT}
 use Rattle.escpos_arguments.proofs.emulate.file_given.Goals as goal
 
 pub returns-in-Some-of-clause-read : goal.returns-in-Some-of-clause-read

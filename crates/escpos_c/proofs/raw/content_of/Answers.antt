@@ -1,6 +1,6 @@
 -- The bytes that are read are those of the stream.
 use Rattle.std.proofs.Common.{rules, ◌≡◌, ◌≤◌, length, subst}
-use Rattle.escpos_jobs.specs.declared.input.TheConstants.{INPUT_LIMIT}
+use Rattle.escpos_job_parts.specs.declared.input.TheConstants.{INPUT_LIMIT}
 use Rattle.escpos_stream.specs.Streams.{StreamGives}
 use Rattle.escpos_c.proofs.raw.content_of.Goals as goal
 

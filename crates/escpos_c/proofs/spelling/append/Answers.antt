@@ -3,7 +3,7 @@ use Rattle.std.proofs.Common.{◌≡◌, ◌++◌, ◌∙◌, [], ◌∷◌, ap,
 use Rattle.escpos_command.specs.CommandTable.{spell}
 use Rattle.escpos_command.specs.declared.bytes.TheConstants.{LF}
 use Rattle.escpos_receipt.specs.EntryCommands.{commands_in}
-use Rattle.escpos_jobs.proofs.EntrySpellings.{text_spelled, line_spelled}
+use Rattle.escpos_stream_jobs.proofs.EntrySpellings.{text_spelled, line_spelled}
 use Rattle.escpos_c.proofs.spelling.append.Goals as goal
 
 pub returns-in_ok-extend_from_slice-in-Text : goal.returns-in_ok-extend_from_slice-in-Text

@@ -2,7 +2,7 @@
 use Rattle.std.proofs.Common.{◌<◌, ◌∙◌, ◌++◌, length, ap, sym, arith}
 use Rattle.escpos_command.specs.CommandTable.{spell}
 use Rattle.escpos_receipt.specs.EntryCommands.{commands_in}
-use Rattle.escpos_jobs.proofs.EntrySpellings.{one_more_entry}
+use Rattle.escpos_stream_jobs.proofs.EntrySpellings.{one_more_entry}
 use Rattle.escpos_c.proofs.spelling.spelled.Goals as goal
 
 pub loop-entry-preserved : goal.loop-entry-preserved

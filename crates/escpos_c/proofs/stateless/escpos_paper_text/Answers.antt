@@ -1,7 +1,7 @@
 -- The usual width is 512 dots.
 use Rattle.escpos_command.specs.declared.line_width.TheConstants.{USUAL_LINE_DOTS}
-use Rattle.escpos_jobs.specs.Render.{plain_shape}
-use Rattle.escpos_jobs.specs.Report.{IsText}
+use Rattle.escpos_stream_jobs.specs.Render.{plain_shape}
+use Rattle.escpos_stream_jobs.specs.Report.{IsText}
 use Rattle.escpos_c.proofs.Answering.{at_width}
 use Rattle.escpos_c.proofs.stateless.escpos_paper_text.Goals as goal
 

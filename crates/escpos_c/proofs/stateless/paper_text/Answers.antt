@@ -1,6 +1,6 @@
 -- The job's text is the paper's plain text, and the caller is given it.
-use Rattle.escpos_jobs.specs.Render.{plain_shape}
-use Rattle.escpos_jobs.specs.Report.{IsText, IsCutShort}
+use Rattle.escpos_stream_jobs.specs.Render.{plain_shape}
+use Rattle.escpos_stream_jobs.specs.Report.{IsText, IsCutShort}
 use Rattle.escpos_c.proofs.Answering.{told_text}
 use Rattle.escpos_c.proofs.stateless.paper_text.Goals as goal
 

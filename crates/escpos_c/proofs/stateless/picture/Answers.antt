@@ -1,5 +1,5 @@
 -- The job's text is the picture, and the caller is given it.
-use Rattle.escpos_jobs.specs.Draw.{IsPicture, IsShortPicture}
+use Rattle.escpos_stream_jobs.specs.Draw.{IsPicture, IsShortPicture}
 use Rattle.escpos_c.proofs.Answering.{told_text}
 use Rattle.escpos_c.proofs.stateless.picture.Goals as goal
 

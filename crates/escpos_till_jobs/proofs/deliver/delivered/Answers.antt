@@ -1,6 +1,6 @@
 -- What followed the call is what came of it.
 use Rattle.std.proofs.Common.{subst, true}
-use Rattle.escpos_jobs.specs.declared.send.TheConstants.{ANSWERS_LIMIT}
+use Rattle.escpos_tcp_jobs.specs.declared.send.TheConstants.{ANSWERS_LIMIT}
 use Rattle.escpos_till.specs.Machine.{Delivers, RefusesDeliver}
 use Rattle.escpos_till.specs.Surroundings.{Did}
 use Rattle.escpos_till_jobs.specs.Delivering.{asked}

@@ -1,6 +1,6 @@
 -- The lines are kept back, and are printed at the end.
 use Rattle.std.proofs.Common.{inl, refl, []}
-use Rattle.escpos_jobs.proofs.Reports.{succeeded}
+use Rattle.escpos_job_parts.proofs.Successes.{succeeded}
 use Rattle.escpos_till_jobs.proofs.listing.print_states.Goals as goal
 
 pub returns-in-Ok-clause-tells : goal.returns-in-Ok-clause-tells

@@ -1,0 +1,4 @@
+pub mod DigitPairs
+pub mod CheckDigits
+pub mod RealTimeNotes
+pub mod Successes

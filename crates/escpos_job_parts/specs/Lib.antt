@@ -1,0 +1,11 @@
+pub mod Status
+pub mod Ending
+pub mod Hexadecimal
+pub mod DigitValues
+pub mod Input
+pub mod Notes
+pub mod RealTimeNotes
+pub mod Lines
+pub mod Refusal
+pub mod Conditions
+pub mod LastText

@@ -1,0 +1,4 @@
+pub mod ScriptOutput
+pub mod Play
+pub mod ScriptSteps
+pub mod ScriptLines

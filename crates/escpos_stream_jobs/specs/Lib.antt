@@ -1,0 +1,9 @@
+pub mod Report
+pub mod Check
+pub mod Render
+pub mod Obstacle
+pub mod Image
+pub mod Encode
+pub mod RenderSteps
+pub mod Draw
+pub mod DrawSteps

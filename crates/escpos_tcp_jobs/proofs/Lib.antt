@@ -1,0 +1,4 @@
+pub mod Quiet
+pub mod TornParts
+mod PrinterStatusLemmas
+mod Watching
