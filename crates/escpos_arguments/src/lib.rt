@@ -1,8 +1,8 @@
 //! The arguments of the command line: which task of escpos_jobs, escpos_till_jobs or escpos_probe they ask for.
 //!
 //! `arguments`, `till` and `probe` have `clap` read them, `queue` reads what follows that word, `emulate` reads that of that word, `form`, `width`, `options` and `image` read these settings; `specs/Arguments.antt`,
-//! `specs/TillArguments.antt` and `specs/ProbeArguments.antt` define what they ask for. Doing it is left to escpos_jobs, which has the texts
-//! of usage and help, to escpos_till_jobs and to escpos_probe. `completions` has the scripts for shells.
+//! `specs/TillArguments.antt` and `specs/ProbeArguments.antt` define what they ask for. Doing it is left to
+//! escpos_jobs, escpos_till_jobs and escpos_probe, and the texts of usage and help to escpos_help. `completions` has the scripts for shells.
 #![tactic(auto)]
 
 mod arguments;
