@@ -49,6 +49,14 @@ pub number_in : (text : Option Text) (n : ℕ) → IsSomeAnd text (λ t. IsNumbe
 number_in None n h = absurd h
 number_in (Some t) n h = h
 
+-- no number is read exactly where there is no text
+pub none_in : (text : Option Text) → IsNumberIn text None → text ≡ None
+none_in None h = refl
+none_in (Some t) h = absurd h
+
+pub in_none : (text : Option Text) → text ≡ None → IsNumberIn text None
+in_none text e = subst (λ o. IsNumberIn o None) (sym e) refl
+
 -- Results of one call are one.
 pub one_result : {T E : Type 0} (r : Result T E) (x y : T) → r ≡ Ok x → r ≡ Ok y → x ≡ y
 one_result r x y e f = let same : Ok x ≡ Ok y = sym e ∙ f in cc
@@ -73,5 +81,5 @@ width_said rows n is in_range =
 -- a number of links that isn't taken isn't asked for
 pub links_refused : (rows : List Row) (r : Result (Option ℕ) NoTask) (why : NoTask) → r ≡ Err why
     → ((n : Option ℕ) → IsNumberIn (one_of (codes "links") rows) n → r ≡ Ok n) → HasFlag (codes "follow") rows → (links : Option ℕ) → IsLinks rows links → ⊥
-links_refused rows r why is taken follows None h = no_error r None why (taken None (subst (λ o. IsNumberIn o None) (sym h.0) refl)) is
+links_refused rows r why is taken follows None h = no_error r None why (taken None (in_none _ h.0)) is
 links_refused rows r why is taken follows (Some n) h = h.1 follows
