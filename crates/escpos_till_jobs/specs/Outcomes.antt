@@ -46,10 +46,20 @@ pub record BecomesAndTells {D : Type 0} (did : D → Deed → D → Type 0) (Ref
 abbrev pub Lists : MachineView → JobEnd → Type 0
 Lists m o = (entries : List Entry) → IsBookOf m.book entries → Tells o (listing_text entries) Good
 
+-- The next mark number is raised, if one is given; or this came instead.
+abbrev pub RaisesFirst : {D : Type 0} → (D → Deed → D → Type 0) → MachineView → D → Option ℕ → Option Outcome → MachineView → D → Type 0
+RaisesFirst did m old None None after new = (after ≡ m) × (new ≡ old)
+RaisesFirst did m old None (Some became) after new = ⊥
+RaisesFirst did m old (Some first) None after new = Serves did m old (Raise first) note.Raised MOST_DEEDS after new
+RaisesFirst did m old (Some first) (Some became) after new = (became ≢ outcome.Told note.Raised) × Becomes did (RefusesRaise m first) m old (Raise first) became after new
+
+-- What the entries say is printed, or what came instead.
+abbrev pub ListsUnless : Option Outcome → MachineView → JobEnd → Type 0
+ListsUnless None m o = Lists m o
+ListsUnless (Some became) m o = Tells o (outcome_line became) (outcome_status became)
+
 -- The next mark number is raised first, if one is given; if it can't be, nothing is listed.
-abbrev pub RaisesAndLists : {D : Type 0} → (D → Deed → D → Type 0) → MachineView → D → Option ℕ → MachineView → D → JobEnd → Type 0
-RaisesAndLists did m old None after new o = (after ≡ m) × (new ≡ old) × Lists after o
-RaisesAndLists did m old (Some first) after new o =
-    (Serves did m old (Raise first) note.Raised MOST_DEEDS after new × Lists after o)
-    ⊎ (((became : Outcome) × (became ≢ outcome.Told note.Raised) × Becomes did (RefusesRaise m first) m old (Raise first) became after new
-    × Tells o (outcome_line became) (outcome_status became)))
+pub record RaisesAndLists {D : Type 0} (did : D → Deed → D → Type 0) (m : MachineView) (old : D) (first : Option ℕ) (after : MachineView) (new : D) (o : JobEnd) : Type 0 where
+  pub instead : Option Outcome
+  pub raises : RaisesFirst did m old first instead after new
+  pub lists : ListsUnless instead after o

@@ -1,5 +1,5 @@
 -- What a word does with a store, and with a ledger at a path.
-use Rattle.std.specs.Prelude.{ℕ, ◌≡◌, ◌≢◌, ◌⊎◌, List, [], Result, Ok, Err}
+use Rattle.std.specs.Prelude.{ℕ, ◌≡◌, ◌≢◌, ◌⊎◌, Option, List, [], Result, Ok, Err}
 use Rattle.escpos_job_parts.specs.declared.status.Status.{Status}
 use Rattle.escpos_job_parts.specs.Ending.{Tells}
 use Rattle.escpos_till.specs.declared.entry.Entry.{Entry}
@@ -12,13 +12,14 @@ use Rattle.escpos_till.specs.Driver.{Cancel, Deed, Queue}
 use Rattle.escpos_till.specs.Entries.{IsLedger}
 use Rattle.escpos_till.specs.Machine.{MachineView, RefusesAny, RefusesCancel}
 use Rattle.escpos_till.specs.Surroundings.{Did}
+use Rattle.escpos_till_jobs.specs.declared.outcome.Outcome.{Outcome}
 use Rattle.escpos_till_jobs.specs.declared.word.Word.{Word}
 use Rattle.escpos_till_jobs.specs.declared.word.Word.TheVariants as word
 use Rattle.escpos_till_jobs.specs.Again.{QueuesAgain}
 use Rattle.escpos_till_jobs.specs.Delivering.{DeliversAndTells}
 use Rattle.escpos_till_jobs.specs.Lines.{no_store_line, no_store_status}
 use Rattle.escpos_till_jobs.specs.Opening.{Opens}
-use Rattle.escpos_till_jobs.specs.Outcomes.{BecomesAndTells, RaisesAndLists}
+use Rattle.escpos_till_jobs.specs.Outcomes.{BecomesAndTells, RaisesAndLists, RaisesFirst}
 use Rattle.escpos_till_jobs.specs.Outputs.{Output, ended}
 
 -- ## With a machine
@@ -54,6 +55,13 @@ DoesWith {S} faithful holds leaves says did w old before new end status =
     ((why : NoStore) × NoLedgerIn faithful holds leaves says old.store why new.store × (new.line ≡ old.line) × Tells (ended before end status) (no_store_line why) (no_store_status why))
     ⊎ ((m after : MachineView) × (opened : S) × Opens faithful holds old.store m opened × (faithful opened → faithful old.store)
     × WordDoes faithful holds leaves says did w m (around opened old.line) before after new end status)
+
+-- The ledger is opened, and its next mark number raised, if one is given; or this came instead.
+abbrev pub FindsStates : {S L : Type 0} → (S → Type 0) → (S → List Entry → Type 0) → (S → List Entry → Type 0) → (S → List Entry → StoreFault → S → Type 0) → (L → Deed → L → Type 0) → Option ℕ
+    → Surroundings S L → MachineView → Option Outcome → Surroundings S L → Type 0
+FindsStates {S} faithful holds leaves says did first old after instead new =
+    (m : MachineView) × (opened : S) × Opens faithful holds old.store m opened × (faithful opened → faithful old.store)
+    × RaisesFirst (Did faithful holds leaves says did) m (around opened old.line) first instead after new
 
 -- ## At a path
 

@@ -8,7 +8,7 @@ ghost use Rattle.escpos_till.specs.Driver.{Raise};
 ghost use Rattle.escpos_till.specs.Machine.{RefusesRaise};
 ghost use Rattle.escpos_till.specs.Surroundings.{Did};
 ghost use Rattle.escpos_till_jobs.specs.Lines.{next_line, state_line, state_lines, state_text};
-ghost use Rattle.escpos_till_jobs.specs.Outcomes.{Becomes, Lists, RaisesAndLists};
+ghost use Rattle.escpos_till_jobs.specs.Outcomes.{Becomes, Lists, ListsUnless, RaisesAndLists, RaisesFirst};
 
 use crate::following::follow;
 use crate::outcome::{Outcome, tell};
@@ -39,13 +39,41 @@ pub fn list<S: Store, L: PrinterLine, W: ByteOut>(
     ensures not_hidden { result ≢ Status.Device → ¬ IsTrue (W.failed output.old) → ¬ IsTrue (W.failed output.new) }
     ensures never_usage { result ≢ Status.Usage }
 {
-    if let Some(first) = first {
-        match raised(machine, around, first) {
-            Outcome::Told(TillNote::Raised) => {}
-            outcome => return tell(outcome, output),
-        }
+    let instead = raise_first(machine, around, first);
+    list_unless(machine, instead, output)
+}
+
+// Raises the next mark number, if one is given. Returns what came instead.
+pub(crate) fn raise_first<S: Store, L: PrinterLine>(
+    machine: &mut TillMachine,
+    around: &mut Surroundings<S, L>,
+    first: Option<u32>,
+) -> Option<Outcome>
+    ensures { RaisesFirst (Did S.faithful S.holds S.leaves S.says L.did) machine.old around.old first result machine.new around.new }
+{
+    match first {
+        None => None,
+        Some(first) => match raised(machine, around, first) {
+            Outcome::Told(TillNote::Raised) => None,
+            outcome => Some(outcome),
+        },
     }
-    list_states(machine, output)
+}
+
+// Prints where each receipt stands, and the next mark number; or what came instead.
+pub(crate) fn list_unless<W: ByteOut>(
+    machine: &TillMachine,
+    instead: Option<Outcome>,
+    output: &mut W,
+) -> Status
+    ensures lists { ListsUnless instead machine.now (job_end (W.written output.old) (W.written output.new) (W.failed output.new) result) }
+    ensures not_hidden { result ≢ Status.Device → ¬ IsTrue (W.failed output.old) → ¬ IsTrue (W.failed output.new) }
+    ensures never_usage { result ≢ Status.Usage }
+{
+    match instead {
+        None => list_states(machine, output),
+        Some(outcome) => tell(outcome, output),
+    }
 }
 
 // Raises the next mark number.

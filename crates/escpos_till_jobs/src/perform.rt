@@ -2,19 +2,21 @@
 //!
 //! Where ledgers are kept, and how lines to printers are made, is given: the program gives its files and its network.
 
-ghost use Rattle.std.specs.Prelude.{◌≡◌, ◌≢◌, ◌+◌, ◌≤◌, ℕ, List, Result, IsTrue};
+ghost use Rattle.std.specs.Prelude.{◌≡◌, ◌≢◌, ◌+◌, ◌≤◌, ℕ, List, None, Result, Some, IfErr, IfOk, IsTrue};
 ghost use Rattle.escpos_job_parts.specs.declared.input.TheConstants.{INPUT_LIMIT};
 ghost use Rattle.escpos_till.specs.declared.store.NoStore.{NoStore as WhyNone};
 ghost use Rattle.escpos_till_jobs.specs.Outputs.{output_of};
 ghost use Rattle.escpos_till_jobs.specs.Performing.{CancelsAt, DeliversAt, IfShared, ListsAt, OfCancel, OfDeliver, OfList, OfQueue, OfQueueAgain, OfQueueRaw, OfReading, OfRenew, QueuesAgainAt, QueuesAt, UnlessDeliver, UnlessReading, UnlessRenew, UnlessShared, way};
 ghost use Rattle.escpos_till_jobs.specs.Raw.{QueuesRawAt};
 ghost use Rattle.escpos_till_jobs.specs.Renewing.{RenewsAt, new_place};
-ghost use Rattle.escpos_till_jobs.specs.Words.{InLedger, place};
+ghost use Rattle.escpos_till_jobs.specs.Words.{FindsStates, InLedger, NoLedgerIn, place};
 
 use crate::deliver::Delivery;
 use crate::lines::Lines;
 use crate::link_line::{NoLine, Waits};
-use crate::opening::refuse_store;
+use crate::listing::{list_unless, raise_first};
+use crate::opening::{open_machine, refuse_store};
+use crate::outcome::Outcome;
 use crate::queue::read_content;
 use crate::raw::{read_raw, refuse_raw};
 use crate::renew::{NewLedgers, renew_ledger};
@@ -23,7 +25,7 @@ use crate::word::{Word, do_with};
 use escpos_io::{ByteIn, ByteOut};
 use escpos_job_parts::receipt_input::refuse_input;
 use escpos_job_parts::status::Status;
-use escpos_till::{NoStore, PrinterLine, Store, Surroundings};
+use escpos_till::{NoStore, PrinterLine, Store, Surroundings, TillMachine};
 use std::alloc::Global;
 
 /// Where ledgers are kept, each in a store of its own.
@@ -152,8 +154,59 @@ pub fn perform_till<
             renew_ledger(alloc, shared, news, &ledger, &new, output)
         }
         TillTask::List { ledger, first } => {
-            do_at(alloc, ledgers, &ledger, NoLine, Word::List(first), output).1
+            list_at(alloc, ledgers, &ledger, first, output)
         }
+    }
+}
+
+// Raises the next mark number of the ledger at a path, if one is given, and lists where its receipts stand. The ledger is closed before anything
+// is printed, so that nobody who reads slowly keeps it from others.
+fn list_at<S: Store, F: Ledgers<S>, W: ByteOut>(
+    alloc: Global,
+    ledgers: &mut F,
+    path: &LedgerPath<'_>,
+    first: Option<u32>,
+    output: &mut W,
+) -> Status
+    ensures lists { ListsAt (place F.opened F.closed S.faithful S.holds S.leaves S.says) ⟦<NoLine as PrinterLine>⟧.did
+        ledgers.old (output_of (W.written output.old) (W.failed output.old)) ledgers.new (output_of (W.written output.new) (W.failed output.new)) result path.now first }
+    ensures not_hidden { result ≢ Status.Device → ¬ IsTrue (W.failed output.old) → ¬ IsTrue (W.failed output.new) }
+    ensures never_usage { result ≢ Status.Usage }
+{
+    match ledgers.open(path) {
+        Ok(store) => {
+            let mut around = Surroundings {
+                store,
+                line: NoLine,
+            };
+            let found = find_states(alloc, &mut around, first);
+            let Surroundings { store, .. } = around;
+            ledgers.close(store);
+            match found {
+                Ok((machine, instead)) => list_unless(&machine, instead, output),
+                Err(why) => refuse_store(why, output),
+            }
+        }
+        Err(why) => refuse_store(why, output),
+    }
+}
+
+// The machine of the ledger that a store has, once its next mark number is raised, if one is given; and what came instead.
+fn find_states<S: Store, L: PrinterLine>(
+    alloc: Global,
+    around: &mut Surroundings<S, L>,
+    first: Option<u32>,
+) -> Result<(TillMachine, Option<Outcome>), NoStore>
+    ensures found { IfOk result (λ it. FindsStates S.faithful S.holds S.leaves S.says L.did first around.old it.0 it.1 around.new) }
+    ensures none { IfErr result (λ why. NoLedgerIn S.faithful S.holds S.leaves S.says around.old.store why around.new.store × (around.new.line ≡ around.old.line)) }
+{
+    match open_machine(alloc, &mut around.store) {
+        Ok(machine) => {
+            let mut machine = machine;
+            let instead = raise_first(&mut machine, around, first);
+            Ok((machine, instead))
+        }
+        Err(why) => Err(why),
     }
 }
 
