@@ -134,9 +134,13 @@ begins_with_a_byte (Char b ∷ cs) first e = absurd cc
 begins_with_a_byte [] first e = first
 begins_with_a_byte (c ∷ cs) first e = first
 
+-- A code table is three bytes.
+spelled_table : (n : ℕ) (cs : List Command) → spell (Set (sets.Table, Some n) ∷ cs) ≡ ESC ∷ 0x74 ∷ n ∷ spell cs
+unfolding table
+spelled_table n cs = refl
+
 -- There is text in the line unless the last byte is LF.
 pub last_byte : (in_line : Bool) (cs : List Command) (front : List ℕ) (b : ℕ) → AreOfLines cs → spell cs ≡ front ++ b ∷ [] → text_left in_line cs ≡ not (b == LF)
-unfolding table
 last_byte in_line [] [] b t e = absurd cc
 last_byte in_line [] (f ∷ front) b t e = absurd cc
 last_byte in_line (Char c ∷ cs) [] b (least, most, t) e =
@@ -153,12 +157,18 @@ last_byte in_line (LineFeed ∷ cs) [] b t e =
 last_byte in_line (LineFeed ∷ cs) (f ∷ front) b t e =
     let rest : spell cs ≡ front ++ b ∷ [] = cc in
     last_byte false cs front b t rest
-last_byte in_line (Set (sets.Table, Some n) ∷ cs) [] b (first, t) e = absurd cc
-last_byte in_line (Set (sets.Table, Some n) ∷ cs) (f ∷ []) b (first, t) e = absurd cc
+last_byte in_line (Set (sets.Table, Some n) ∷ cs) [] b (first, t) e =
+    let whole : ESC ∷ 0x74 ∷ n ∷ spell cs ≡ b ∷ [] = sym (spelled_table n cs) ∙ e in
+    absurd cc
+last_byte in_line (Set (sets.Table, Some n) ∷ cs) (f ∷ []) b (first, t) e =
+    let whole : ESC ∷ 0x74 ∷ n ∷ spell cs ≡ f ∷ b ∷ [] = sym (spelled_table n cs) ∙ e in
+    absurd cc
 last_byte in_line (Set (sets.Table, Some n) ∷ cs) (f ∷ g ∷ []) b (first, t) e =
+    let whole : ESC ∷ 0x74 ∷ n ∷ spell cs ≡ f ∷ g ∷ b ∷ [] = sym (spelled_table n cs) ∙ e in
     let rest : spell cs ≡ [] = cc in
     absurd (begins_with_a_byte cs first rest)
 last_byte in_line (Set (sets.Table, Some n) ∷ cs) (f ∷ g ∷ h ∷ front) b (first, t) e =
+    let whole : ESC ∷ 0x74 ∷ n ∷ spell cs ≡ f ∷ g ∷ h ∷ (front ++ b ∷ []) = sym (spelled_table n cs) ∙ e in
     let rest : spell cs ≡ front ++ b ∷ [] = cc in
     last_byte in_line cs front b t rest
 last_byte in_line (c ∷ cs) front b t e = absurd t
