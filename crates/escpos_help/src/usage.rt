@@ -72,7 +72,8 @@ line `memory` says that the program ran out of memory.
 
       The commands of Epson's Reference by their first bytes, hexadecimal. What
       is taken may still be refused at a parameter that it doesn't have; a byte
-      that isn't here is refused, too, below 20, or after 10, 1B, 1D or 1D 28.
+      that isn't here is refused, too, below 20, or after 10, 1B, 1B 63, 1C, 1D
+      or 1D 28.
 
           09        HT      refused: tab stops
           0A        LF      taken
@@ -112,7 +113,9 @@ line `memory` says that the program ran out of memory.
           1B 57     ESC W   refused: page mode
           1B 5C     ESC \\   refused: positions in the line
           1B 61     ESC a   taken
-          1B 63     ESC c   taken, with no effect: 3, 4 and 5
+          1B 63 33  ESC c 3 taken, with no effect
+          1B 63 34  ESC c 4 taken, with no effect
+          1B 63 35  ESC c 5 taken, with no effect
           1B 64     ESC d   taken
           1B 65     ESC e   refused: feeds backwards
           1B 69     ESC i   refused: an older form of a cut; GS V is taken
@@ -123,8 +126,19 @@ line `memory` says that the program ran out of memory.
           1B 75     ESC u   refused: a status request; DLE EOT is taken
           1B 76     ESC v   refused: a status request; DLE EOT is taken
           1B 7B     ESC {   taken
-          1C        FS      refused: Kanji characters, images that are kept
+          1C 21     FS !    refused: Kanji characters
+          1C 26     FS &    refused: Kanji characters
+          1C 28     FS (    refused: Kanji characters, images that are kept
+          1C 2D     FS -    refused: Kanji characters
           1C 2E     FS .    taken, with no effect
+          1C 32     FS 2    refused: Kanji characters
+          1C 3F     FS ?    refused: Kanji characters
+          1C 43     FS C    refused: Kanji characters
+          1C 53     FS S    refused: Kanji characters
+          1C 57     FS W    refused: Kanji characters
+          1C 67     FS g    refused: memory of the machine
+          1C 70     FS p    refused: images that the machine keeps
+          1C 71     FS q    refused: images that the machine keeps
           1D 21     GS !    taken
           1D 24     GS $    refused: page mode
           1D 28 41  GS ( A  refused: a test print of the machine
