@@ -1,316 +1,57 @@
-//! Reading an input, decoding, printing, and serving a link.
+//! Printing, and serving a link. Where an allocation fails the next byte isn't taken, and it is fed again with those that follow it.
 
-use crate::support::items::prints_items;
-use crate::support::printers::printer_at_last;
-use escpos_command::{Command, LineWidth};
-use escpos_decode::{Consumer, DecodeFault, Decoded, Decoder, End, Step, Stop, decode, read_piece};
-use escpos_io::{ByteIn, MemoryIn, MemoryOut, ReadError, read_to_end};
-use escpos_paper::Page;
-use escpos_printer::{Fed, FeedStop, LinkEnd, Printer, Served, serve_link};
-use escpos_test_values::{
-    BARCODE, BOTH, PICTURE, PRINT, STORE, STREAM, barcode, is_spelled, picture, stored,
-};
-use std::alloc::{AllocError, Global};
+use crate::support::items::has_text;
+use crate::support::links::serve;
+use crate::support::printers::{ONLINE, Step, feeds_again, plays, printer_at_last};
+use escpos_io::{MemoryIn, MemoryOut};
+use escpos_printer::{LinkEnd, Printer, Served};
+use escpos_test_values::{BOTH, STREAM};
+use std::alloc::Global;
 use std::process::Abort;
 
 const PRINTED: &[u8] =
     b"row left Hi\nfeed 1\nbars left ean8 162 3 none A 55123457\nraster left normal 1 2 f00f\n";
 
-// Reads forty bytes, four at a time. Where memory is refused the source hasn't failed, and what is left of it isn't said, so
-// a new one is read.
-fn all_at_last(rt: &impl Abort, alloc: Global, text: &[u8]) -> Vec<u8> {
-    let mut reader = MemoryIn::new(text, 4);
-    match read_to_end(alloc, &mut reader, text.len()) {
-        Ok(all) => all,
-        Err(error) => {
-            assert!(rt; error == ReadError::Memory);
-            assert!(rt; !reader.has_failed());
-            let mut reader = MemoryIn::new(text, 4);
-            read_to_end(alloc, &mut reader, text.len()).expect(rt, "the bytes")
-        }
-    }
-}
-
-#[test]
-fn read_to_end_refused(rt: HostRuntime) {
-    let text = b"0123456789012345678901234567890123456789".as_slice();
-    let all = all_at_last(&rt, rt.alloc(), text);
-    assert!(&rt; all.as_slice() == text);
-}
-
-// Pushes a byte, which has this place in a spelling. Where memory is refused the half command is as it was, and the byte is
-// pushed again.
-fn step_at_last(rt: &impl Abort, decoder: &mut Decoder, byte: u8, place: usize) -> Step {
-    assert!(rt; decoder.pending_len() == place);
-    match decoder.push(byte) {
-        Ok(step) => step,
-        Err(fault) => {
-            assert!(rt; fault == DecodeFault::Memory);
-            assert!(rt; decoder.pending_len() == place);
-            decoder.push(byte).expect(rt, "a step")
-        }
-    }
-}
-
-// Pushes a spelling, whose last byte completes the command.
-fn completes(rt: &impl Abort, decoder: &mut Decoder, spelling: &[u8]) {
-    let (last, others) = spelling.split_last().expect(rt, "a spelling");
-    for (place, byte) in others.iter().enumerate() {
-        assert!(rt; step_at_last(rt, decoder, *byte, place) == Step::More);
-    }
-    match step_at_last(rt, decoder, *last, others.len()) {
-        Step::Done(command) => assert!(rt; is_spelled(&command, spelling)),
-        Step::More => panic!(rt; "no command"),
-    }
-}
-
-#[test]
-fn push_refused(rt: HostRuntime) {
-    for spelling in [BARCODE, PICTURE, STORE] {
-        let mut decoder = Decoder::new(rt.alloc());
-        completes(&rt, &mut decoder, spelling);
-    }
-}
-
-// Whether these commands are spelled so, one after another, at the beginning of a stream; and how many bytes are left of it.
-fn left_of(rt: &impl Abort, commands: &[Command], stream: &[u8]) -> usize {
-    let mut left = stream;
-    for command in commands {
-        let mut room = [0; 32];
-        let count = command.spell_at(0, &mut room);
-        let (spelling, later) = left.split_at_checked(count).expect(rt, "a spelling");
-        assert!(rt; room.get(..count) == Some(spelling));
-        left = later;
-    }
-    left.len()
-}
-
-// Reads a stream to a list. Where memory is refused, the commands before were taken; and then it is read from its start.
-fn reads_stream(rt: &impl Abort, decoder: &mut Decoder, commands: &mut Vec<Command>) {
-    if let Err(stop) = read_piece(decoder, STREAM, commands, &mut ()) {
-        assert!(rt; matches!(stop, Stop::Memory | Stop::Refused(AllocError)));
-        assert!(rt; left_of(rt, commands, STREAM) > decoder.pending_len());
-        decoder.clear();
-        commands.clear();
-        assert!(rt; read_piece(decoder, STREAM, commands, &mut ()).is_ok());
-    }
-    assert!(rt; left_of(rt, commands, STREAM) == 0);
-    assert!(rt; commands.len() == 5);
-}
-
-#[test]
-fn read_piece_refused(rt: HostRuntime) {
-    let mut decoder = Decoder::new(rt.alloc());
-    let mut commands = Vec::new(rt.alloc());
-    reads_stream(&rt, &mut decoder, &mut commands);
-}
-
-// A list takes a command. Where memory is refused it is as it was, and takes another one.
-fn takes(rt: &impl Abort, commands: &mut Vec<Command>, count: usize) {
-    if commands.take(Command::LineFeed, 0, &mut ()).is_err() {
-        assert!(rt; commands.len() == count);
-        assert!(rt; commands.take(Command::LineFeed, 0, &mut ()).is_ok());
-    }
-    assert!(rt; commands.len() == count.saturating_add(1));
-}
-
-#[test]
-fn take_refused(rt: HostRuntime) {
-    let mut commands = Vec::new(rt.alloc());
-    for count in 0..9 {
-        takes(&rt, &mut commands, count);
-    }
-    assert!(&rt; left_of(&rt, &commands, b"\n\n\n\n\n\n\n\n\n") == 0);
-}
-
-// The stream of `STREAM`, cut within the barcode and within the raster.
-const PIECES: [&[u8]; 3] = [
-    b"Hi\n\x1Dk\x0355",
-    b"12345\x00\x1Dv0\x00\x01\x00\x02",
-    b"\x00\xF0\x0F",
-];
-
-fn decoded_at_last(rt: &impl Abort, alloc: Global) -> Decoded {
-    match decode(alloc, &PIECES) {
-        Ok(decoded) => decoded,
-        Err(AllocError) => decode(alloc, &PIECES).expect(rt, "commands"),
-    }
-}
-
-#[test]
-fn decode_refused(rt: HostRuntime) {
-    let decoded = decoded_at_last(&rt, rt.alloc());
-    assert!(&rt; decoded.end == End::Read { half: 0 });
-    assert!(&rt; left_of(&rt, &decoded.commands, STREAM) == 0);
-    assert!(&rt; decoded.commands.len() == 5);
-}
-
-// A page is readied, and a line feed is carried out on it. Where memory is refused the paper is as it was, and has no room.
-fn readies(rt: &impl Abort, page: &mut Page, count: usize) {
-    if page.ready().is_err() {
-        assert!(rt; page.items().len() == count);
-        assert!(rt; !page.has_room());
-        assert!(rt; page.ready().is_ok());
-    }
-    assert!(rt; page.has_room());
-    assert!(rt; page.apply(Command::LineFeed).is_ok());
-    assert!(rt; page.items().len() == count.saturating_add(1));
-}
-
-#[test]
-fn ready_refused(rt: HostRuntime) {
-    let mut page = Page::new(rt.alloc(), LineWidth::usual());
-    for count in 0..20 {
-        readies(&rt, &mut page, count);
-    }
-}
-
-// A page on which data is stored is readied for a print, which takes the room of the copy along. Where memory is refused what is
-// stored stays, and so does the paper.
-fn readies_for_a_print(rt: &impl Abort, page: &mut Page, count: usize) {
-    assert!(rt; !page.has_room());
-    if page.ready().is_err() {
-        assert!(rt; page.items().len() == count);
-        assert!(rt; !page.has_room());
-        assert!(rt; page.ready().is_ok());
-    }
-    assert!(rt; page.has_room());
-    assert!(rt; page.apply(Command::QrPrint).is_ok());
-    assert!(rt; page.items().len() == count.saturating_add(1));
-}
-
-#[test]
-fn ready_for_a_print_refused(rt: HostRuntime) {
-    let mut page = Page::new(rt.alloc(), LineWidth::usual());
-    let store = Command::QrStore(stored(rt.alloc()).expect(&rt, "the data of a QR code"));
-    applies(&rt, &mut page, store, STORE);
-    for count in 0..3 {
-        readies_for_a_print(&rt, &mut page, count);
-    }
-    prints_items(&rt, page.items(), THREE_QR_CODES);
-}
-
-// A page carries a command out that is spelled so. Where memory is refused the paper is as it was, and the command comes back.
-fn applies(rt: &impl Abort, page: &mut Page, command: Command, spelling: &[u8]) {
-    let count = page.items().len();
-    if let Err(back) = page.apply(command) {
-        assert!(rt; page.items().len() == count);
-        assert!(rt; is_spelled(&back, spelling));
-        assert!(rt; page.apply(back).is_ok());
-    }
-}
-
-// Barcodes and rasters, three times.
-const THREE_OF_BOTH: &[u8] = b"bars left ean8 162 3 none A 55123457\nraster left normal 1 2 f00f\n\
-    bars left ean8 162 3 none A 55123457\nraster left normal 1 2 f00f\n\
-    bars left ean8 162 3 none A 55123457\nraster left normal 1 2 f00f\n";
-
-const THREE_QR_CODES: &[u8] = b"qr left 2 3 L AB\nqr left 2 3 L AB\nqr left 2 3 L AB\n";
-
-// A store, three prints of it, and a line feed between them.
-#[test]
-fn apply_to_a_stored_code_refused(rt: HostRuntime) {
-    let mut page = Page::new(rt.alloc(), LineWidth::usual());
-    let store = Command::QrStore(stored(rt.alloc()).expect(&rt, "the data of a QR code"));
-    applies(&rt, &mut page, store, STORE);
-    for _ in 0..3 {
-        applies(&rt, &mut page, Command::QrPrint, PRINT);
-    }
-    prints_items(&rt, page.items(), THREE_QR_CODES);
-    page.tear_off();
-    applies(&rt, &mut page, Command::LineFeed, b"\n");
-    applies(&rt, &mut page, Command::QrPrint, PRINT);
-    prints_items(&rt, page.items(), b"feed 1\nqr left 2 3 L AB\n");
-}
-
-#[test]
-fn apply_refused(rt: HostRuntime) {
-    let mut page = Page::new(rt.alloc(), LineWidth::usual());
-    for _ in 0..3 {
-        let bars = Command::Bars(barcode(rt.alloc()).expect(&rt, "a barcode"));
-        applies(&rt, &mut page, bars, BARCODE);
-        let raster = Command::Raster(picture(rt.alloc()).expect(&rt, "a raster"));
-        applies(&rt, &mut page, raster, PICTURE);
-    }
-    prints_items(&rt, page.items(), THREE_OF_BOTH);
-    page.tear_off();
-    assert!(&rt; page.items().is_empty());
-}
-
-// A page takes a line of 42 characters of 50. Where memory is refused the paper is as it was.
-fn applies_text(rt: &impl Abort, page: &mut Page) {
-    let text = [b'x'; 50];
-    let count = page.items().len();
-    let taken = match page.apply_text(&text) {
-        Ok(taken) => taken,
-        Err(AllocError) => {
-            assert!(rt; page.items().len() == count);
-            page.apply_text(&text).expect(rt, "memory")
-        }
-    };
-    assert!(rt; taken == 42);
-}
-
-// Two lines of 42 characters, each of which the line after it has ended.
-const TWO_LINES: &[u8] = b"row left xxxxxxxxxxxxxxxxxxxxxxxxxxxxxxxxxxxxxxxxxx\nfeed 1\n\
-    row left xxxxxxxxxxxxxxxxxxxxxxxxxxxxxxxxxxxxxxxxxx\nfeed 1\n";
-
-#[test]
-fn apply_text_refused(rt: HostRuntime) {
-    let mut page = Page::new(rt.alloc(), LineWidth::usual());
-    for _ in 0..3 {
-        applies_text(&rt, &mut page);
-    }
-    prints_items(&rt, page.items(), TWO_LINES);
-}
-
 #[test]
 fn new_printer_refused(rt: HostRuntime) {
-    let printer = printer_at_last(&rt, rt.alloc());
-    assert!(&rt; printer.is_online());
-    assert!(&rt; printer.items().is_empty());
-    assert!(&rt; printer.pending_len() == 0);
-    assert!(&rt; printer.waiting() == 0);
-}
-
-// Feeds a stream. Where memory is refused the next byte isn't taken, and it is fed again with those that follow it.
-fn feeds(rt: &impl Abort, printer: &mut Printer, piece: &[u8]) {
-    let fed = printer.feed(piece);
-    if fed.stop == FeedStop::Memory {
-        let (_, rest) = piece.split_at_checked(fed.consumed).expect(rt, "a rest");
-        let wanted = Fed {
-            consumed: rest.len(),
-            stop: FeedStop::All,
-        };
-        assert!(rt; !rest.is_empty());
-        assert!(rt; printer.feed(rest) == wanted);
-    } else {
-        assert!(rt; fed.stop == FeedStop::All);
-        assert!(rt; fed.consumed == piece.len());
-    }
+    let steps = [
+        Step::Online(true),
+        Step::Items(0),
+        Step::Half(0),
+        Step::Waiting(0),
+    ];
+    plays(&rt, rt.alloc(), ONLINE, &steps);
 }
 
 #[test]
 fn feed_refused(rt: HostRuntime) {
-    let mut printer = printer_at_last(&rt, rt.alloc());
-    feeds(&rt, &mut printer, STREAM);
-    prints_items(&rt, printer.items(), PRINTED);
-    feeds(&rt, &mut printer, BOTH);
-    assert!(&rt; printer.items().len() == 6);
-    assert!(&rt; printer.pending_len() == 0);
+    let steps = [
+        Step::FeedAgain(STREAM),
+        Step::Paper(PRINTED),
+        Step::FeedAgain(BOTH),
+        Step::Items(6),
+        Step::Half(0),
+    ];
+    plays(&rt, rt.alloc(), ONLINE, &steps);
 }
 
 // Text of three lines, two of which are full.
 const TEXT: &[u8] =
     b"xxxxxxxxxxxxxxxxxxxxxxxxxxxxxxxxxxxxxxxxxxxxxxxxxxxxxxxxxxxxxxxxxxxxxxxxxxxxxxxxxxxxxxxx";
 
+// Two lines of 42 characters, each of which the line after it has ended.
+const TWO_LINES: &[u8] = b"row left xxxxxxxxxxxxxxxxxxxxxxxxxxxxxxxxxxxxxxxxxx\nfeed 1\n\
+    row left xxxxxxxxxxxxxxxxxxxxxxxxxxxxxxxxxxxxxxxxxx\nfeed 1\n";
+
 #[test]
 fn feed_of_text_refused(rt: HostRuntime) {
-    let mut printer = printer_at_last(&rt, rt.alloc());
-    feeds(&rt, &mut printer, TEXT);
-    prints_items(&rt, printer.items(), TWO_LINES);
-    feeds(&rt, &mut printer, TEXT);
-    assert!(&rt; printer.items().len() == 8);
+    let steps = [
+        Step::FeedAgain(TEXT),
+        Step::Paper(TWO_LINES),
+        Step::FeedAgain(TEXT),
+        Step::Items(8),
+    ];
+    plays(&rt, rt.alloc(), ONLINE, &steps);
 }
 
 // A store, a print, a line and two prints more.
@@ -322,9 +63,8 @@ const QR_PAPER: &[u8] =
 
 #[test]
 fn feed_of_qr_codes_refused(rt: HostRuntime) {
-    let mut printer = printer_at_last(&rt, rt.alloc());
-    feeds(&rt, &mut printer, QR_STREAM);
-    prints_items(&rt, printer.items(), QR_PAPER);
+    let steps = [Step::FeedAgain(QR_STREAM), Step::Paper(QR_PAPER)];
+    plays(&rt, rt.alloc(), ONLINE, &steps);
 }
 
 // A line, a status request, a mark and both; the answers; and how they are served.
@@ -340,37 +80,33 @@ const SERVED: Served = Served {
     end: LinkEnd::Ended,
 };
 
-// Where memory is refused, what wasn't taken of a link prints the rest.
-fn prints_rest(rt: &impl Abort, printer: &mut Printer, served: Served) {
-    assert!(rt; served.read == LINK.len());
-    assert!(rt; printer.waiting() == 0);
-    let (_, rest) = LINK.split_at_checked(served.consumed).expect(rt, "a rest");
-    feeds(rt, printer, rest);
-}
-
-// Serves a link. Answers no where memory is refused: then the answers are those to what was taken, and what wasn't prints the
-// rest.
+// Serves a link. Answers whether no allocation failed. Where one did, the answers are those to what was taken, and what wasn't
+// prints the rest.
 fn serves(rt: &impl Abort, printer: &mut Printer) -> bool {
     let mut room = [0; 16];
-    let mut reader = MemoryIn::new(LINK, 512);
     let mut writer = MemoryOut::new(&mut room);
-    let served = serve_link(printer, &mut reader, &mut writer, 100);
+    let served = serve(printer, &mut MemoryIn::new(LINK, 512), &mut writer, 100);
     assert!(rt; Some(writer.written()) == LINK_ANSWERS.get(..served.written));
     let is_whole = served.end != LinkEnd::Memory;
     if is_whole {
         assert!(rt; served == SERVED);
     } else {
-        prints_rest(rt, printer, served);
+        assert!(rt; served.read == LINK.len() && printer.waiting() == 0);
+        let rest = LINK.get(served.consumed..).expect(rt, "a rest");
+        assert!(rt; feeds_again(printer, rest));
     }
-    prints_items(rt, printer.items(), PRINTED);
+    assert!(rt; has_text(printer.items(), PRINTED));
     is_whole
+}
+
+fn serves_with_a_new_printer(rt: &impl Abort, alloc: Global) -> bool {
+    let mut printer = printer_at_last(rt, alloc, ONLINE);
+    serves(rt, &mut printer)
 }
 
 #[test]
 fn serve_link_refused(rt: HostRuntime) {
-    let mut printer = printer_at_last(&rt, rt.alloc());
-    if !serves(&rt, &mut printer) {
-        let mut printer = printer_at_last(&rt, rt.alloc());
-        assert!(&rt; serves(&rt, &mut printer));
-    }
+    assert!(&rt;
+        serves_with_a_new_printer(&rt, rt.alloc()) || serves_with_a_new_printer(&rt, rt.alloc())
+    );
 }

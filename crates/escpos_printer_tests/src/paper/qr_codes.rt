@@ -1,26 +1,11 @@
 //! QR codes on a page: their worked rows, the data that a page keeps, and the room for a copy of it.
 
-use crate::paper::{apply, expect_text, print, write_items_to};
-use escpos_command::{Command, LineWidth, QrData};
-use escpos_decode::decode;
-use escpos_io::{Device, MemoryOut, Outgoing};
-use escpos_paper::*;
-use escpos_test_values::bytes_of;
-use std::alloc::Global;
-use std::process::Abort;
+use crate::support::pages::{Step, plays_usual};
 
 // The text of a command that stores AB, and that of the print.
 const STORE: &[u8] = b"\x1D(k\x05\x001P0AB";
 
 const PRINT: &[u8] = b"\x1D(k\x03\x001Q0";
-
-// Carries out the commands that these bytes spell.
-fn apply_bytes(rt: &impl Abort, alloc: Global, page: &mut Page, bytes: &[u8]) {
-    let decoded = decode(alloc, &[bytes]).expect(rt, "memory");
-    for command in decoded.commands {
-        apply(rt, page, command);
-    }
-}
 
 // Streams, and what they print.
 const PRINTED: [(&[u8], &[u8]); 21] = [
@@ -124,151 +109,122 @@ fn printed_streams() -> &'static [(&'static [u8], &'static [u8])] {
 #[test]
 fn printed(rt: HostRuntime) {
     for (bytes, text) in printed_streams() {
-        let mut page = Page::new(rt.alloc(), LineWidth::usual());
-        apply_bytes(&rt, rt.alloc(), &mut page, bytes);
-        expect_text(&rt, &page, text);
+        plays_usual(&rt, rt.alloc(), &[Step::Apply(bytes), Step::Text(text)]);
     }
 }
 
 // A restart forgets what is stored and what is set.
 #[test]
 fn restart_forgets(rt: HostRuntime) {
-    let mut page = Page::new(rt.alloc(), LineWidth::usual());
-    apply_bytes(&rt, rt.alloc(), &mut page, b"\x1D(k\x03\x001C\x08");
-    apply_bytes(&rt, rt.alloc(), &mut page, STORE);
-    page.restart();
-    print(&rt, &mut page, b'X');
-    apply_bytes(&rt, rt.alloc(), &mut page, PRINT);
-    expect_text(&rt, &page, b"");
-    apply_bytes(&rt, rt.alloc(), &mut page, STORE);
-    apply_bytes(&rt, rt.alloc(), &mut page, PRINT);
-    expect_text(&rt, &page, b"row left X\nfeed 1\nqr left 2 3 L AB\n");
+    let steps = [
+        Step::Apply(b"\x1D(k\x03\x001C\x08"),
+        Step::Apply(STORE),
+        Step::Restart,
+        Step::Apply(b"X"),
+        Step::Apply(PRINT),
+        Step::Text(b""),
+        Step::Apply(STORE),
+        Step::Apply(PRINT),
+        Step::Text(b"row left X\nfeed 1\nqr left 2 3 L AB\n"),
+    ];
+    plays_usual(&rt, rt.alloc(), &steps);
 }
 
 // Paper that is torn off takes nothing along of what is stored and set.
 #[test]
 fn tear_off_keeps_the_store(rt: HostRuntime) {
-    let mut page = Page::new(rt.alloc(), LineWidth::usual());
-    apply_bytes(&rt, rt.alloc(), &mut page, b"\x1D(k\x03\x001C\x08");
-    apply_bytes(&rt, rt.alloc(), &mut page, STORE);
-    for _ in 0..3 {
-        apply_bytes(&rt, rt.alloc(), &mut page, PRINT);
-        expect_text(&rt, &page, b"qr left 2 8 L AB\n");
-        page.tear_off();
-    }
-    expect_text(&rt, &page, b"");
+    let steps = [
+        Step::Apply(b"\x1D(k\x03\x001C\x08"),
+        Step::Apply(STORE),
+        Step::Apply(PRINT),
+        Step::Text(b"qr left 2 8 L AB\n"),
+        Step::TearOff,
+        Step::Apply(PRINT),
+        Step::Text(b"qr left 2 8 L AB\n"),
+        Step::TearOff,
+        Step::Apply(PRINT),
+        Step::Text(b"qr left 2 8 L AB\n"),
+        Step::TearOff,
+        Step::Text(b""),
+    ];
+    plays_usual(&rt, rt.alloc(), &steps);
 }
 
 // Text that is put as a whole stands in the line before a QR code, too.
 #[test]
 fn text_before_a_qr_code(rt: HostRuntime) {
-    let mut page = Page::new(rt.alloc(), LineWidth::usual());
-    apply_bytes(&rt, rt.alloc(), &mut page, STORE);
-    assert!(rt; page.apply_text(b"Hi").expect(&rt, "memory") == 2);
-    apply_bytes(&rt, rt.alloc(), &mut page, PRINT);
-    assert!(rt; page.apply_text(b"!").expect(&rt, "memory") == 1);
-    expect_text(&rt, &page, b"row left Hi\nfeed 1\nqr left 2 3 L AB\n");
-}
-
-fn has_room(rt: &impl Abort, page: &Page, wanted: bool) {
-    assert!(rt; page.has_room() == wanted);
+    let steps = [
+        Step::Apply(STORE),
+        Step::PutHi,
+        Step::Apply(PRINT),
+        Step::PutExclamationMark,
+        Step::Text(b"row left Hi\nfeed 1\nqr left 2 3 L AB\n"),
+    ];
+    plays_usual(&rt, rt.alloc(), &steps);
 }
 
 // A page has room for one more command only where it has room for a copy of what is stored: not after a store, and not
 // after a print.
 #[test]
 fn room_for_a_copy(rt: HostRuntime) {
-    let mut page = Page::new(rt.alloc(), LineWidth::usual());
-    page.ready().expect(&rt, "memory");
-    has_room(&rt, &page, true);
-    apply_bytes(&rt, rt.alloc(), &mut page, STORE);
-    has_room(&rt, &page, false);
-    page.ready().expect(&rt, "memory");
-    has_room(&rt, &page, true);
-    apply_bytes(&rt, rt.alloc(), &mut page, PRINT);
-    page.tear_off();
-    has_room(&rt, &page, false);
-    page.ready().expect(&rt, "memory");
-    has_room(&rt, &page, true);
-    apply_bytes(&rt, rt.alloc(), &mut page, STORE);
-    page.restart();
-    has_room(&rt, &page, true);
-}
-
-// Stores so many bytes.
-fn store_of(rt: &impl Abort, alloc: Global, page: &mut Page, byte: u8, count: usize) {
-    let data = bytes_of(alloc, (b"", byte, count, b"")).expect(rt, "memory");
-    let stored = QrData::new(data).expect(rt, "the data of a QR code");
-    apply(rt, page, Command::QrStore(stored));
-}
-
-// So many lines with the longest content, each byte of which takes three characters.
-fn are_long_lines(rt: &impl Abort, alloc: Global, text: &[u8], count: usize) {
-    let mut line = b"qr left 2 3 L ".to_vec(alloc).expect(rt, "memory");
-    for _ in 0..7089 {
-        line.extend_from_slice(b"\\1b").expect(rt, "memory");
-    }
-    line.push(b'\n').expect(rt, "memory");
-    assert!(rt; text.len() == count.saturating_mul(21_282));
-    for part in text.chunks(21_282) {
-        assert!(rt; part == line.as_slice());
-    }
+    let steps = [
+        Step::Ready,
+        Step::HasRoom(true),
+        Step::Apply(STORE),
+        Step::HasRoom(false),
+        Step::Ready,
+        Step::HasRoom(true),
+        Step::Apply(PRINT),
+        Step::TearOff,
+        Step::HasRoom(false),
+        Step::Ready,
+        Step::HasRoom(true),
+        Step::Apply(STORE),
+        Step::Restart,
+        Step::HasRoom(true),
+    ];
+    plays_usual(&rt, rt.alloc(), &steps);
 }
 
 #[test]
 fn longest_content(rt: HostRuntime) {
-    let mut page = Page::new(rt.alloc(), LineWidth::usual());
-    store_of(&rt, rt.alloc(), &mut page, 0x1B, 7089);
-    for _ in 0..3 {
-        apply_bytes(&rt, rt.alloc(), &mut page, PRINT);
-    }
-    let mut sink = Outgoing::new(Vec::new(rt.alloc()));
-    assert!(rt; write_items_to(page.items(), &mut sink) == Ok(()));
-    are_long_lines(&rt, rt.alloc(), &sink.into_inner(), 3);
+    let steps = [
+        Step::Store(0x1B, 7089),
+        Step::Apply(PRINT),
+        Step::Apply(PRINT),
+        Step::Apply(PRINT),
+        Step::LongLines(3),
+    ];
+    plays_usual(&rt, rt.alloc(), &steps);
 }
 
 // Wherever the writer fails in the line of a QR code, it has the first of its bytes, and the error says how many these are.
 #[test]
 fn a_qr_code_cut_short(rt: HostRuntime) {
-    let mut page = Page::new(rt.alloc(), LineWidth::usual());
-    store_of(&rt, rt.alloc(), &mut page, b'7', 7089);
-    apply_bytes(&rt, rt.alloc(), &mut page, PRINT);
-    let line = bytes_of(rt.alloc(), (b"qr left 2 3 L ", b'7', 7089, b"\n")).expect(&rt, "memory");
-    for len in [0, 13, 14, 15, 2048, 7102, 7103] {
-        let mut room = bytes_of(rt.alloc(), (b"", 0, len, b"")).expect(&rt, "memory");
-        let mut sink = MemoryOut::taking(&mut room, 999);
-        let short = Err(Device {
-            written: len as u128,
-        });
-        assert!(rt; write_items_to(page.items(), &mut sink) == short);
-        assert!(rt; Some(sink.written()) == line.get(..len));
-    }
-}
-
-fn has_content(items: &[Item]) -> bool {
-    match items {
-        [
-            Item::Qr {
-                model: 1,
-                size: 5,
-                content,
-                ..
-            },
-            Item::Qr { content: again, .. },
-        ] => { content.as_slice() == b"AB".as_slice() && again.as_slice() == b"AB".as_slice() }
-        _ => false,
-    }
+    let steps = [
+        Step::Store(b'7', 7089),
+        Step::Apply(PRINT),
+        Step::LongLineCutShort(0),
+        Step::LongLineCutShort(13),
+        Step::LongLineCutShort(14),
+        Step::LongLineCutShort(15),
+        Step::LongLineCutShort(2048),
+        Step::LongLineCutShort(7102),
+        Step::LongLineCutShort(7103),
+    ];
+    plays_usual(&rt, rt.alloc(), &steps);
 }
 
 // The bytes of a content that lies on paper can be read there; each QR code has a copy of its own.
 #[test]
 fn content_on_paper(rt: HostRuntime) {
-    let mut page = Page::new(rt.alloc(), LineWidth::usual());
-    let settings = b"\x1D(k\x04\x001A1\x00\x1D(k\x03\x001C\x05";
-    apply_bytes(&rt, rt.alloc(), &mut page, settings);
-    apply_bytes(&rt, rt.alloc(), &mut page, STORE);
-    apply_bytes(&rt, rt.alloc(), &mut page, PRINT);
-    apply_bytes(&rt, rt.alloc(), &mut page, PRINT);
-    apply_bytes(&rt, rt.alloc(), &mut page, b"\x1D(k\x04\x001P0Z");
-    assert!(rt; has_content(page.items()));
+    let steps = [
+        Step::Apply(b"\x1D(k\x04\x001A1\x00\x1D(k\x03\x001C\x05"),
+        Step::Apply(STORE),
+        Step::Apply(PRINT),
+        Step::Apply(PRINT),
+        Step::Apply(b"\x1D(k\x04\x001P0Z"),
+        Step::HasTwoCodes,
+    ];
+    plays_usual(&rt, rt.alloc(), &steps);
 }

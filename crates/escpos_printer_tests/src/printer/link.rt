@@ -1,61 +1,16 @@
 //! Links that are served from memory to memory.
 
-use crate::support::printers::{
-    ONLINE, OPEN, RECEIPT, feed_all, mark, new_printer, printer_at_last, push_bytes, push_mark,
-};
+use crate::support::links::{Link, Source, bytes_in_pieces, how_served};
+use crate::support::marks::{ANSWERS, MARKS, mark, push_bytes, push_mark};
+use crate::support::printers::{ONLINE, OPEN, RECEIPT, Step, plays};
 use escpos_command::FaultReason;
-use escpos_io::{ByteIn, MemoryIn, MemoryOut};
-use escpos_printer::{Condition, LinkEnd, Printer, Served, serve_link};
-use escpos_test_values::{marks, unlike};
+use escpos_printer::{Condition, LinkEnd, Served};
+use escpos_test_values::unlike;
 use std::alloc::Global;
 use std::process::Abort;
 
 // The answer to mark 0.
 const ANSWER: &[u8] = b"\x37\x220000\x00";
-
-fn how_served(read: usize, consumed: usize, written: usize, end: LinkEnd) -> Served {
-    Served {
-        read,
-        consumed,
-        written,
-        end,
-    }
-}
-
-// Serves a link, and compares how it ended.
-fn ends(
-    rt: &impl Abort,
-    printer: &mut Printer,
-    reader: &mut MemoryIn,
-    writer: &mut MemoryOut,
-    (max_bytes, wanted): (u32, Served),
-) {
-    assert!(rt; serve(printer, reader, writer, max_bytes) == wanted);
-}
-
-// The same, with what went out to a writer with this room.
-fn serves(
-    rt: &impl Abort,
-    printer: &mut Printer,
-    reader: &mut MemoryIn,
-    room: &mut [u8],
-    max_bytes: u32,
-    (wanted, out): (Served, &[u8]),
-) {
-    let mut writer = MemoryOut::new(room);
-    ends(rt, printer, reader, &mut writer, (max_bytes, wanted));
-    assert!(rt; writer.written() == out, "other bytes went out");
-}
-
-// Serves a link. It says nothing of how that ends, so that its callers carry none of the contract.
-fn serve(
-    printer: &mut Printer,
-    reader: &mut MemoryIn,
-    writer: &mut MemoryOut,
-    max_bytes: u32,
-) -> Served {
-    serve_link(printer, reader, writer, max_bytes)
-}
 
 // A mark and a character.
 const MARK_AND_A: &[u8] = b"\x1D(H\x06\x00000000A";
@@ -105,51 +60,58 @@ fn serve_links(rt: HostRuntime) {
             (how_served(0, 0, 0, LinkEnd::TooLong), b""),
         ),
     ];
-    for (condition, (input, max_bytes, size), wanted) in rows {
-        let mut printer = new_printer(&rt, rt.alloc(), condition);
-        let mut reader = MemoryIn::new(input, 1000);
-        let mut room = [0u8; 100];
-        let room = &mut room[..size.min(100)];
-        serves(&rt, &mut printer, &mut reader, room, max_bytes, wanted);
+    for (condition, (input, max_bytes, room), (wanted, out)) in rows {
+        let link = Link {
+            max_bytes,
+            room,
+            wanted,
+            out,
+        };
+        let steps = [Step::Serve(bytes_in_pieces(input, 1000), &[link])];
+        plays(&rt, rt.alloc(), condition, &steps);
     }
 }
 
 // A link that is too long is followed by another, which the same printer serves: the half command between them is completed.
-fn serves_after_too_long(rt: &impl Abort, printer: &mut Printer) {
-    let mut reader = MemoryIn::new(b"Hi\n\x1BE\x01A\n", 3);
-    let wanted = (how_served(5, 5, 0, LinkEnd::TooLong), b"".as_slice());
-    serves(rt, printer, &mut reader, &mut [0; 8], 5, wanted);
-    let mut reader = MemoryIn::new(b"\x00A\n\x1D(H\x06\x00000000", 3);
-    let wanted = (how_served(14, 14, 7, LinkEnd::Ended), ANSWER);
-    serves(rt, printer, &mut reader, &mut [0; 8], 100, wanted);
-    assert!(rt; printer.items().len() == 4);
-}
-
 #[test]
 fn a_link_after_one_that_is_too_long(rt: HostRuntime) {
-    let mut printer = new_printer(&rt, rt.alloc(), ONLINE);
-    serves_after_too_long(&rt, &mut printer);
+    let too_long = Link {
+        max_bytes: 5,
+        room: 8,
+        wanted: how_served(5, 5, 0, LinkEnd::TooLong),
+        out: b"",
+    };
+    let another = Link {
+        max_bytes: 100,
+        room: 8,
+        wanted: how_served(14, 14, 7, LinkEnd::Ended),
+        out: ANSWER,
+    };
+    let steps = [
+        Step::Serve(bytes_in_pieces(b"Hi\n\x1BE\x01A\n", 3), &[too_long]),
+        Step::Serve(
+            bytes_in_pieces(b"\x00A\n\x1D(H\x06\x00000000", 3),
+            &[another],
+        ),
+        Step::Items(4),
+    ];
+    plays(&rt, rt.alloc(), ONLINE, &steps);
 }
 
 // Two blocks that wait at once are one, and where the first went out before the second they are two.
-fn serves_blocks(rt: &impl Abort, printer: &mut Printer, most: usize, wanted: (Served, &[u8])) {
-    let mut reader = MemoryIn::new(b"\x1Da\x01\x10\x04\x01\x1Da\x01", most);
-    serves(rt, printer, &mut reader, &mut [0; 16], 100, wanted);
-}
-
 #[test]
 fn blocks_over_a_link(rt: HostRuntime) {
-    let one = (
-        how_served(9, 9, 5, LinkEnd::Ended),
-        b"\x10\x00\x00\x00\x12".as_slice(),
-    );
-    let two = (
-        how_served(9, 9, 9, LinkEnd::Ended),
-        b"\x10\x00\x00\x00\x12\x10\x00\x00\x00".as_slice(),
-    );
-    for (most, wanted) in [(100, one), (1, two)] {
-        let mut printer = new_printer(&rt, rt.alloc(), ONLINE);
-        serves_blocks(&rt, &mut printer, most, wanted);
+    let one = b"\x10\x00\x00\x00\x12".as_slice();
+    let two = b"\x10\x00\x00\x00\x12\x10\x00\x00\x00".as_slice();
+    for (most, out) in [(100, one), (1, two)] {
+        let link = Link {
+            max_bytes: 100,
+            room: 16,
+            wanted: how_served(9, 9, out.len(), LinkEnd::Ended),
+            out,
+        };
+        let blocks = bytes_in_pieces(b"\x1Da\x01\x10\x04\x01\x1Da\x01", most);
+        plays(&rt, rt.alloc(), ONLINE, &[Step::Serve(blocks, &[link])]);
     }
 }
 
@@ -161,112 +123,104 @@ fn two_hundred_marks(rt: HostRuntime) {
         push_mark(&rt, &mut bytes, number);
         push_bytes(&rt, &mut answers, mark(&rt, number).bytes().as_slice());
     }
-    let mut printer = new_printer(&rt, rt.alloc(), ONLINE);
-    let mut reader = MemoryIn::new(&bytes, 1000);
-    let mut room = [0u8; 2000];
-    let wanted = (
-        how_served(2200, 2200, 1400, LinkEnd::Ended),
-        answers.as_slice(),
-    );
-    serves(&rt, &mut printer, &mut reader, &mut room, 100_000, wanted);
+    let link = Link {
+        max_bytes: 100_000,
+        room: 2000,
+        wanted: how_served(2200, 2200, 1400, LinkEnd::Ended),
+        out: &answers,
+    };
+    let steps = [Step::Serve(bytes_in_pieces(&bytes, 1000), &[link])];
+    plays(&rt, rt.alloc(), ONLINE, &steps);
 }
 
-// What a link sends that fails nowhere: a line, 18 marks and a status request.
-fn long_link(rt: &impl Abort, alloc: Global) -> Vec<u8> {
-    let mut bytes = Vec::new(alloc);
-    push_bytes(rt, &mut bytes, b"Hi\n");
-    for number in 0..18 {
-        push_mark(rt, &mut bytes, number);
-    }
-    push_bytes(rt, &mut bytes, b"\x10\x04\x01");
-    bytes
-}
+// What a link sends that fails nowhere: a line, the marks 0 to 17 and a status request.
+const LONG_LINK: &[u8] =
+    b"Hi\n\x1D(H\x06\x00000000\x1D(H\x06\x00000001\x1D(H\x06\x00000002\x1D(H\x06\x00000003\
+      \x1D(H\x06\x00000004\x1D(H\x06\x00000005\x1D(H\x06\x00000006\x1D(H\x06\x00000007\
+      \x1D(H\x06\x00000008\x1D(H\x06\x00000009\x1D(H\x06\x0000000A\x1D(H\x06\x0000000B\
+      \x1D(H\x06\x0000000C\x1D(H\x06\x0000000D\x1D(H\x06\x0000000E\x1D(H\x06\x0000000F\
+      \x1D(H\x06\x0000000G\x1D(H\x06\x0000000H\x10\x04\x01";
 
-// The read of this number fails: what was read before it, so many bytes, is taken and answered.
-fn fails_at_a_read(rt: &impl Abort, printer: &mut Printer, bytes: &[u8], call: u64, count: usize) {
-    let mut room = [0u8; 200];
-    let mut reader = MemoryIn::failing(bytes, 40, call);
-    let mut writer = MemoryOut::new(&mut room);
-    let ended = serve(printer, &mut reader, &mut writer, 1000);
-    let wanted = how_served(count, count, writer.written().len(), LinkEnd::ReadFault);
-    assert!(rt; ended == wanted, "at call {call}");
-    assert!(rt; printer.waiting() == 0, "at call {call}");
-}
+// The answers to it.
+const LONG_ANSWERS: [u8; 127] = *b"\x37\x220000\x00\x37\x220001\x00\x37\x220002\x00\x37\x220003\x00\
+      \x37\x220004\x00\x37\x220005\x00\x37\x220006\x00\x37\x220007\x00\
+      \x37\x220008\x00\x37\x220009\x00\x37\x22000A\x00\x37\x22000B\x00\
+      \x37\x22000C\x00\x37\x22000D\x00\x37\x22000E\x00\x37\x22000F\x00\
+      \x37\x22000G\x00\x37\x22000H\x00\x12";
 
 // A read fails, at each place in turn: what was read before it is taken and answered.
 #[test]
 fn reader_faults(rt: HostRuntime) {
-    let bytes = long_link(&rt, rt.alloc());
-    for (call, (wanted, out)) in [
-        (1, (how_served(0, 0, 0, LinkEnd::ReadFault), b"".as_slice())),
-        (2, (how_served(12, 12, 7, LinkEnd::ReadFault), ANSWER)),
-    ] {
-        let mut printer = new_printer(&rt, rt.alloc(), ONLINE);
-        let mut reader = MemoryIn::failing(MARK_AND_A, 1000, call);
-        let mut room = [0u8; 100];
-        let wanted = (wanted, out);
-        serves(&rt, &mut printer, &mut reader, &mut room, 100, wanted);
-    }
-    let rows: [(u64, usize); 7] = [
-        (1, 0),
-        (2, 40),
-        (3, 80),
-        (4, 120),
-        (5, 160),
-        (6, 200),
-        (7, 204),
+    let rows: [(&[u8], usize, u64, usize, usize); 9] = [
+        (MARK_AND_A, 1000, 1, 0, 0),
+        (MARK_AND_A, 1000, 2, 12, 7),
+        (LONG_LINK, 40, 1, 0, 0),
+        (LONG_LINK, 40, 2, 40, 21),
+        (LONG_LINK, 40, 3, 80, 49),
+        (LONG_LINK, 40, 4, 120, 70),
+        (LONG_LINK, 40, 5, 160, 98),
+        (LONG_LINK, 40, 6, 200, 119),
+        (LONG_LINK, 40, 7, 204, 127),
     ];
-    for (call, count) in rows {
-        let mut printer = new_printer(&rt, rt.alloc(), ONLINE);
-        fails_at_a_read(&rt, &mut printer, &bytes, call, count);
+    for (bytes, most, call, count, written) in rows {
+        let failing = Source {
+            bytes,
+            most,
+            fails_at: Some(call),
+        };
+        let link = Link {
+            max_bytes: 1000,
+            room: 200,
+            wanted: how_served(count, count, written, LinkEnd::ReadFault),
+            out: &LONG_ANSWERS[..written],
+        };
+        let steps = [Step::Serve(failing, &[link]), Step::Waiting(0)];
+        plays(&rt, rt.alloc(), ONLINE, &steps);
     }
-}
-
-// The writer has so much room, and fails at the next byte.
-fn fails_at_a_write(rt: &impl Abort, printer: &mut Printer, bytes: &[u8], room: &mut [u8]) {
-    let size = room.len();
-    let mut reader = MemoryIn::new(bytes, 1000);
-    let mut writer = MemoryOut::new(room);
-    let served = serve(printer, &mut reader, &mut writer, 1000);
-    assert!(rt; served.written == size, "in a room of {size}");
-    assert!(rt; served.end == LinkEnd::WriteFault, "in a room of {size}");
-    let answered = if size < 112 { 16 } else { 19 };
-    assert!(rt;
-        printer.waiting() + size / 7 + 1 == answered,
-        "in a room of {size}"
-    );
 }
 
 // A write fails, at each place in turn: the answer that was being written is lost, and later ones wait.
 #[test]
 fn writer_faults(rt: HostRuntime) {
-    let bytes = long_link(&rt, rt.alloc());
-    let mut room = [0u8; 127];
-    for size in 0..room.len() {
-        let mut printer = new_printer(&rt, rt.alloc(), ONLINE);
-        fails_at_a_write(&rt, &mut printer, &bytes, &mut room[..size]);
+    for room in 0..127usize {
+        let (consumed, answered) = if room < 112 { (189, 16) } else { (204, 19) };
+        let link = Link {
+            max_bytes: 1000,
+            room,
+            wanted: how_served(204, consumed, room, LinkEnd::WriteFault),
+            out: &LONG_ANSWERS[..room],
+        };
+        let steps = [
+            Step::Serve(bytes_in_pieces(LONG_LINK, 1000), &[link]),
+            Step::Waiting(answered - room / 7 - 1),
+        ];
+        plays(&rt, rt.alloc(), ONLINE, &steps);
     }
-    let mut printer = new_printer(&rt, rt.alloc(), ONLINE);
-    let mut reader = MemoryIn::new(&bytes, 1000);
-    let mut writer = MemoryOut::new(&mut room);
-    let wanted = how_served(204, 204, 127, LinkEnd::Ended);
-    ends(&rt, &mut printer, &mut reader, &mut writer, (1000, wanted));
+    let link = Link {
+        max_bytes: 1000,
+        room: 127,
+        wanted: how_served(204, 204, 127, LinkEnd::Ended),
+        out: &LONG_ANSWERS,
+    };
+    let steps = [Step::Serve(bytes_in_pieces(LONG_LINK, 1000), &[link])];
+    plays(&rt, rt.alloc(), ONLINE, &steps);
 }
 
 // Answers that wait from an earlier link go out first.
 #[test]
 fn answers_that_waited(rt: HostRuntime) {
-    let first = marks(rt.alloc(), &[0]).expect(&rt, "marks");
-    let mut printer = new_printer(&rt, rt.alloc(), ONLINE);
-    feed_all(&rt, &mut printer, &first);
-    feed_all(&rt, &mut printer, b"\x10");
-    let mut room = [0u8; 100];
-    let mut reader = MemoryIn::new(b"\x04\x01", 1);
-    let wanted = (
-        how_served(2, 2, 8, LinkEnd::Ended),
-        b"\x37\x220000\x00\x12".as_slice(),
-    );
-    serves(&rt, &mut printer, &mut reader, &mut room, 100, wanted);
+    let link = Link {
+        max_bytes: 100,
+        room: 100,
+        wanted: how_served(2, 2, 8, LinkEnd::Ended),
+        out: b"\x37\x220000\x00\x12",
+    };
+    let steps = [
+        Step::Feed(b"\x1D(H\x06\x00000000"),
+        Step::Feed(b"\x10"),
+        Step::Serve(bytes_in_pieces(b"\x04\x01", 1), &[link]),
+    ];
+    plays(&rt, rt.alloc(), ONLINE, &steps);
 }
 
 const ENDS: [LinkEnd; 8] = [
@@ -306,100 +260,66 @@ fn unequal_ends(rt: HostRuntime) {
     assert!(&rt; unlike(&links) == None);
 }
 
-// Serves the receipt. Where memory is refused, the bytes that weren't taken are served again.
-fn serves_the_receipt(rt: &impl Abort, printer: &mut Printer, writer: &mut MemoryOut) {
-    let mut reader = MemoryIn::new(RECEIPT, 10);
-    let ended = serve(printer, &mut reader, writer, 1000);
-    if ended.end != LinkEnd::Ended {
-        assert!(rt; ended.end == LinkEnd::Memory);
-        assert!(rt; printer.waiting() == 0);
-        let rest = RECEIPT.get(ended.consumed..).expect(rt, "the rest");
-        serves_the_rest(rt, printer, writer, rest);
-    }
-}
-
-fn serves_the_rest(rt: &impl Abort, printer: &mut Printer, writer: &mut MemoryOut, rest: &[u8]) {
-    let mut reader = MemoryIn::new(rest, 10);
-    let ended = serve(printer, &mut reader, writer, 1000);
-    assert!(rt; ended.end == LinkEnd::Ended);
-    assert!(rt; ended.consumed == rest.len());
-}
-
 // Here each allocation succeeds, as in the test of `feed`.
 #[test]
 fn allocations_fail_on_a_link(rt: HostRuntime) {
-    let mut printer = printer_at_last(&rt, rt.alloc());
-    let mut room = [0u8; 100];
-    let mut writer = MemoryOut::new(&mut room);
-    serves_the_receipt(&rt, &mut printer, &mut writer);
-    assert!(rt; printer.items().len() == 9);
-    assert!(rt; writer.written() == b"\x12\x37\x220000\x00".as_slice());
-}
-
-// A link over 2,000 bytes ends so, after so many reads.
-fn reads_in_pieces(
-    rt: &impl Abort,
-    printer: &mut Printer,
-    (max_bytes, pulls, end): (u32, u64, LinkEnd),
-) {
-    let mut reader = MemoryIn::new(&[0x0A; 2000], 10_000);
-    let mut writer = MemoryOut::new(&mut []);
-    let read = (max_bytes as usize).min(2000);
-    let wanted = how_served(read, read, 0, end);
-    ends(rt, printer, &mut reader, &mut writer, (max_bytes, wanted));
-    assert!(rt; reader.pulls() == pulls, "up to {max_bytes}");
+    let steps = [
+        Step::ServeAgain(RECEIPT, b"\x12\x37\x220000\x00"),
+        Step::Items(9),
+    ];
+    plays(&rt, rt.alloc(), ONLINE, &steps);
 }
 
 // A read asks for 512 bytes, or for what is left of the limit; none is tried once that is reached.
 #[test]
 fn pieces(rt: HostRuntime) {
-    let rows: [(u32, u64, LinkEnd); 5] = [
-        (0, 0, LinkEnd::TooLong),
-        (1536, 3, LinkEnd::TooLong),
-        (1537, 4, LinkEnd::TooLong),
-        (2000, 4, LinkEnd::TooLong),
-        (3000, 5, LinkEnd::Ended),
+    let rows: [(u32, usize, u64, LinkEnd); 5] = [
+        (0, 0, 0, LinkEnd::TooLong),
+        (1536, 1536, 3, LinkEnd::TooLong),
+        (1537, 1537, 4, LinkEnd::TooLong),
+        (2000, 2000, 4, LinkEnd::TooLong),
+        (3000, 2000, 5, LinkEnd::Ended),
     ];
-    for row in rows {
-        let mut printer = new_printer(&rt, rt.alloc(), ONLINE);
-        reads_in_pieces(&rt, &mut printer, row);
+    for (max_bytes, read, pulls, end) in rows {
+        let link = Link {
+            max_bytes,
+            room: 0,
+            wanted: how_served(read, read, 0, end),
+            out: b"",
+        };
+        let steps = [Step::ServeInReads(bytes_in_pieces(&[0x0A; 2000], 10_000), link, pulls)];
+        plays(&rt, rt.alloc(), ONLINE, &steps);
     }
-}
-
-// The writer has so much room, and fails at the next byte: the marks after the one that is being answered aren't read.
-fn reads_no_further(rt: &impl Abort, printer: &mut Printer, bytes: &[u8], room: &mut [u8]) {
-    let size = room.len();
-    let mut reader = MemoryIn::new(bytes, 11);
-    let mut writer = MemoryOut::new(room);
-    let marks = size / 7 + 1;
-    let wanted = how_served(marks * 11, marks * 11, size, LinkEnd::WriteFault);
-    ends(rt, printer, &mut reader, &mut writer, (1000, wanted));
-    assert!(rt; reader.pulls() == marks as u64, "in a room of {size}");
-}
-
-// The answers of an earlier feed don't fit: nothing is read.
-fn reads_no_more(rt: &impl Abort, printer: &mut Printer) {
-    let mut room = [0u8; 9];
-    let mut reader = MemoryIn::new(b"A", 1);
-    let mut writer = MemoryOut::new(&mut room);
-    let wanted = how_served(0, 0, 9, LinkEnd::WriteFault);
-    ends(rt, printer, &mut reader, &mut writer, (100, wanted));
-    assert!(rt; reader.pulls() == 0);
-    assert!(rt; printer.waiting() == 4);
 }
 
 // Answers go out before the next read: where a write fails, nothing was read after the bytes that it answers.
 #[test]
 fn no_read_before_answers(rt: HostRuntime) {
-    let bytes = marks(rt.alloc(), &[0, 1, 2, 3, 4, 5]).expect(&rt, "marks");
-    let mut room = [0u8; 42];
-    for size in 0..room.len() {
-        let mut printer = new_printer(&rt, rt.alloc(), ONLINE);
-        reads_no_further(&rt, &mut printer, &bytes, &mut room[..size]);
+    let six = &MARKS[..66];
+    for room in 0..42usize {
+        let marks = room / 7 + 1;
+        let link = Link {
+            max_bytes: 1000,
+            room,
+            wanted: how_served(marks * 11, marks * 11, room, LinkEnd::WriteFault),
+            out: &ANSWERS[..room],
+        };
+        let steps = [Step::ServeInReads(bytes_in_pieces(six, 11), link, marks as u64)];
+        plays(&rt, rt.alloc(), ONLINE, &steps);
     }
-    let mut printer = new_printer(&rt, rt.alloc(), ONLINE);
-    feed_all(&rt, &mut printer, &bytes);
-    reads_no_more(&rt, &mut printer);
+    // the answers of an earlier feed don't fit
+    let link = Link {
+        max_bytes: 100,
+        room: 9,
+        wanted: how_served(0, 0, 9, LinkEnd::WriteFault),
+        out: &ANSWERS[..9],
+    };
+    let steps = [
+        Step::Feed(six),
+        Step::ServeInReads(bytes_in_pieces(b"A", 1), link, 0),
+        Step::Waiting(4),
+    ];
+    plays(&rt, rt.alloc(), ONLINE, &steps);
 }
 
 // Answers that are too many end no link, however many come in one piece, or in all.
@@ -409,36 +329,42 @@ fn many_requests(rt: HostRuntime) {
     for _ in 0..20_000 {
         push_bytes(&rt, &mut bytes, b"\x10\x04\x01");
     }
-    let mut room = vec![in rt.alloc(); 0u8; 20_000].expect(&rt, "memory");
-    let mut printer = new_printer(&rt, rt.alloc(), ONLINE);
-    let mut reader = MemoryIn::new(&bytes, 1000);
-    let wanted = (
-        how_served(60_000, 60_000, 20_000, LinkEnd::Ended),
-        [0x12; 20_000].as_slice(),
-    );
-    serves(&rt, &mut printer, &mut reader, &mut room, 100_000, wanted);
+    let link = Link {
+        max_bytes: 100_000,
+        room: 20_000,
+        wanted: how_served(60_000, 60_000, 20_000, LinkEnd::Ended),
+        out: &[0x12; 20_000],
+    };
+    let steps = [Step::Serve(bytes_in_pieces(&bytes, 1000), &[link])];
+    plays(&rt, rt.alloc(), ONLINE, &steps);
 }
 
-// A link that takes a byte, and two over a source that has stopped so.
-fn serves_no_byte(rt: &impl Abort, printer: &mut Printer, reader: &mut MemoryIn, end: LinkEnd) {
-    for (max_bytes, wanted) in [
-        (100, how_served(1, 1, 0, end)),
-        (100, how_served(0, 0, 0, end)),
-        (0, how_served(0, 0, 0, LinkEnd::TooLong)),
-    ] {
-        serves(rt, printer, reader, &mut [0], max_bytes, (wanted, b""));
+// A link of so many bytes at most, to which nothing is answered.
+fn unanswered(max_bytes: u32, taken: usize, end: LinkEnd) -> Link<'static> {
+    Link {
+        max_bytes,
+        room: 1,
+        wanted: how_served(taken, taken, 0, end),
+        out: b"",
     }
 }
 
 // A link that may have no byte is too long, also where its source has ended or failed before.
 #[test]
 fn no_byte_at_all(rt: HostRuntime) {
-    for (mut reader, end) in [
-        (MemoryIn::new(b"A", 1), LinkEnd::Ended),
-        (MemoryIn::failing(b"A", 1, 2), LinkEnd::ReadFault),
-    ] {
-        let mut printer = new_printer(&rt, rt.alloc(), ONLINE);
-        serves_no_byte(&rt, &mut printer, &mut reader, end);
+    for (fails_at, end) in [(None, LinkEnd::Ended), (Some(2), LinkEnd::ReadFault)] {
+        let one_byte = Source {
+            bytes: b"A",
+            most: 1,
+            fails_at,
+        };
+        let links = [
+            unanswered(100, 1, end),
+            unanswered(100, 0, end),
+            unanswered(0, 0, LinkEnd::TooLong),
+        ];
+        let steps = [Step::Serve(one_byte, &links)];
+        plays(&rt, rt.alloc(), ONLINE, &steps);
     }
 }
 
