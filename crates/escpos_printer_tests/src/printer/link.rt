@@ -67,7 +67,7 @@ fn serve_links(rt: HostRuntime) {
             wanted,
             out,
         };
-        let steps = [Step::Serve(bytes_in_pieces(input, 1000), &[link])];
+        let steps = [Step::Serve(bytes_in_pieces(input, 1000), link)];
         plays(&rt, rt.alloc(), condition, &steps);
     }
 }
@@ -88,11 +88,8 @@ fn a_link_after_one_that_is_too_long(rt: HostRuntime) {
         out: ANSWER,
     };
     let steps = [
-        Step::Serve(bytes_in_pieces(b"Hi\n\x1BE\x01A\n", 3), &[too_long]),
-        Step::Serve(
-            bytes_in_pieces(b"\x00A\n\x1D(H\x06\x00000000", 3),
-            &[another],
-        ),
+        Step::Serve(bytes_in_pieces(b"Hi\n\x1BE\x01A\n", 3), too_long),
+        Step::Serve(bytes_in_pieces(b"\x00A\n\x1D(H\x06\x00000000", 3), another),
         Step::Items(4),
     ];
     plays(&rt, rt.alloc(), ONLINE, &steps);
@@ -111,7 +108,7 @@ fn blocks_over_a_link(rt: HostRuntime) {
             out,
         };
         let blocks = bytes_in_pieces(b"\x1Da\x01\x10\x04\x01\x1Da\x01", most);
-        plays(&rt, rt.alloc(), ONLINE, &[Step::Serve(blocks, &[link])]);
+        plays(&rt, rt.alloc(), ONLINE, &[Step::Serve(blocks, link)]);
     }
 }
 
@@ -129,7 +126,7 @@ fn two_hundred_marks(rt: HostRuntime) {
         wanted: how_served(2200, 2200, 1400, LinkEnd::Ended),
         out: &answers,
     };
-    let steps = [Step::Serve(bytes_in_pieces(&bytes, 1000), &[link])];
+    let steps = [Step::Serve(bytes_in_pieces(&bytes, 1000), link)];
     plays(&rt, rt.alloc(), ONLINE, &steps);
 }
 
@@ -174,7 +171,7 @@ fn reader_faults(rt: HostRuntime) {
             wanted: how_served(count, count, written, LinkEnd::ReadFault),
             out: &LONG_ANSWERS[..written],
         };
-        let steps = [Step::Serve(failing, &[link]), Step::Waiting(0)];
+        let steps = [Step::Serve(failing, link), Step::Waiting(0)];
         plays(&rt, rt.alloc(), ONLINE, &steps);
     }
 }
@@ -191,7 +188,7 @@ fn writer_faults(rt: HostRuntime) {
             out: &LONG_ANSWERS[..room],
         };
         let steps = [
-            Step::Serve(bytes_in_pieces(LONG_LINK, 1000), &[link]),
+            Step::Serve(bytes_in_pieces(LONG_LINK, 1000), link),
             Step::Waiting(answered - room / 7 - 1),
         ];
         plays(&rt, rt.alloc(), ONLINE, &steps);
@@ -202,7 +199,7 @@ fn writer_faults(rt: HostRuntime) {
         wanted: how_served(204, 204, 127, LinkEnd::Ended),
         out: &LONG_ANSWERS,
     };
-    let steps = [Step::Serve(bytes_in_pieces(LONG_LINK, 1000), &[link])];
+    let steps = [Step::Serve(bytes_in_pieces(LONG_LINK, 1000), link)];
     plays(&rt, rt.alloc(), ONLINE, &steps);
 }
 
@@ -218,7 +215,7 @@ fn answers_that_waited(rt: HostRuntime) {
     let steps = [
         Step::Feed(b"\x1D(H\x06\x00000000"),
         Step::Feed(b"\x10"),
-        Step::Serve(bytes_in_pieces(b"\x04\x01", 1), &[link]),
+        Step::Serve(bytes_in_pieces(b"\x04\x01", 1), link),
     ];
     plays(&rt, rt.alloc(), ONLINE, &steps);
 }
@@ -335,7 +332,7 @@ fn many_requests(rt: HostRuntime) {
         wanted: how_served(60_000, 60_000, 20_000, LinkEnd::Ended),
         out: &[0x12; 20_000],
     };
-    let steps = [Step::Serve(bytes_in_pieces(&bytes, 1000), &[link])];
+    let steps = [Step::Serve(bytes_in_pieces(&bytes, 1000), link)];
     plays(&rt, rt.alloc(), ONLINE, &steps);
 }
 
@@ -363,7 +360,7 @@ fn no_byte_at_all(rt: HostRuntime) {
             unanswered(100, 0, end),
             unanswered(0, 0, LinkEnd::TooLong),
         ];
-        let steps = [Step::Serve(one_byte, &links)];
+        let steps = [Step::ServeAll(one_byte, &links)];
         plays(&rt, rt.alloc(), ONLINE, &steps);
     }
 }

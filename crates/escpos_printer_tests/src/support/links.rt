@@ -44,7 +44,11 @@ fn reader_of<'a>(source: &Source<'a>) -> MemoryIn<'a> {
     }
 }
 
-pub fn serves(printer: &mut Printer, source: &Source, links: &[Link]) -> bool {
+pub fn serves(printer: &mut Printer, source: &Source, link: &Link) -> bool {
+    serves_from(printer, &mut reader_of(source), link)
+}
+
+pub fn serves_all(printer: &mut Printer, source: &Source, links: &[Link]) -> bool {
     let mut reader = reader_of(source);
     for link in links {
         if !serves_from(printer, &mut reader, link) {
@@ -61,9 +65,11 @@ pub fn serves_in_reads(printer: &mut Printer, source: &Source, link: &Link, pull
 
 fn serves_from(printer: &mut Printer, reader: &mut MemoryIn, link: &Link) -> bool {
     let mut room = [0; 20_000];
-    let Some(room) = room.get_mut(..link.room) else {
-        return false;
-    };
+    let size = link.room.min(20_000);
+    serves_into(printer, reader, &mut room[..size], link)
+}
+
+fn serves_into(printer: &mut Printer, reader: &mut MemoryIn, room: &mut [u8], link: &Link) -> bool {
     let mut writer = MemoryOut::new(room);
     serve(printer, reader, &mut writer, link.max_bytes) == link.wanted
         && writer.written() == link.out

@@ -3,7 +3,7 @@
 //! Only `plays` owns a printer: what a function owns is proved dropped at each way out of it.
 
 use crate::support::items::{has_text, is_raster_and_text};
-use crate::support::links::{Link, Source, serves, serves_again, serves_in_reads};
+use crate::support::links::{Link, Source, serves, serves_again, serves_all, serves_in_reads};
 use escpos_command::{Answer, AutomaticStatus, FaultReason, LineWidth, MarkId};
 use escpos_printer::{Condition, Fed, FeedStop, Printer};
 use std::alloc::{AllocError, Global};
@@ -99,8 +99,10 @@ pub enum Step<'a> {
     Paper(&'a [u8]),
     /// A raster, these characters and a feed lie on paper.
     RasterAndText(&'a [u8]),
+    /// A link over a source.
+    Serve(Source<'a>, Link<'a>),
     /// Links over one source, one after another.
-    Serve(Source<'a>, &'a [Link<'a>]),
+    ServeAll(Source<'a>, &'a [Link<'a>]),
     /// A link that reads its source so often.
     ServeInReads(Source<'a>, Link<'a>, u64),
     /// A link over these bytes, to which this is answered. Where an allocation fails, the bytes that weren't taken are served again.
@@ -141,7 +143,8 @@ fn does(printer: &mut Printer, alloc: Global, step: &Step) -> bool {
         Step::Skips(piece, at, why, text) => {
             stops_at_a_fault(printer, piece, *at, *why) && prints_rest(printer, piece, *at, text)
         }
-        Step::Serve(source, links) => serves(printer, source, links),
+        Step::Serve(source, link) => serves(printer, source, link),
+        Step::ServeAll(source, links) => serves_all(printer, source, links),
         Step::ServeInReads(source, link, pulls) => serves_in_reads(printer, source, link, *pulls),
         Step::ServeAgain(bytes, out) => serves_again(printer, bytes, out),
         Step::Set(condition) => sets(printer, *condition),
