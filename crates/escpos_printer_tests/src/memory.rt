@@ -4,6 +4,4 @@
 //! it works on is as its contract says; then the same call is made again, and gives what it gives with ample memory. Here each
 //! allocation succeeds; `bench/starve` lets the first, the second and so on of a test's allocations fail.
 
-mod decoder;
-mod page;
 mod printer;

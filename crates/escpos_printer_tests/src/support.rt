@@ -5,5 +5,6 @@
 pub mod items;
 pub mod links;
 pub mod marks;
+pub mod page_again;
 pub mod pages;
 pub mod printers;

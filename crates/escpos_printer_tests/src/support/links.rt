@@ -65,14 +65,26 @@ pub fn serves_in_reads(printer: &mut Printer, source: &Source, link: &Link, pull
 
 fn serves_from(printer: &mut Printer, reader: &mut MemoryIn, link: &Link) -> bool {
     let mut room = [0; 20_000];
-    let size = link.room.min(20_000);
-    serves_into(printer, reader, &mut room[..size], link)
+    let room = &mut room[..link.room.min(20_000)];
+    serves_into(
+        printer,
+        reader,
+        room,
+        link.max_bytes,
+        (link.wanted, link.out),
+    )
 }
 
-fn serves_into(printer: &mut Printer, reader: &mut MemoryIn, room: &mut [u8], link: &Link) -> bool {
+fn serves_into(
+    printer: &mut Printer,
+    reader: &mut MemoryIn,
+    room: &mut [u8],
+    max_bytes: u32,
+    (wanted, out): (Served, &[u8]),
+) -> bool {
     let mut writer = MemoryOut::new(room);
-    serve(printer, reader, &mut writer, link.max_bytes) == link.wanted
-        && writer.written() == link.out
+    let served = serve(printer, reader, &mut writer, max_bytes);
+    served == wanted && writer.written() == out
 }
 
 pub fn serves_again(printer: &mut Printer, bytes: &[u8], out: &[u8]) -> bool {
