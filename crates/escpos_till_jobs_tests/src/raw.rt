@@ -1,62 +1,11 @@
 //! Streams of bytes of other libraries: what is sent of those that are receipts, and where the others are refused.
 
-use crate::support::tills::{
-    Told, delivery_to, done_with, is_told, line_over, number, printer_address, store_of,
-};
+use crate::support::steps::{Step, plays};
+use crate::support::tills::is_told;
 use escpos_command::LineWidth;
 use escpos_io::{MemoryIn, MemoryOut};
 use escpos_job_parts::status::Status;
-use escpos_till::{MemoryStore, ReceiptContent};
-use escpos_till_jobs::{NoLine, Word, read_raw, refuse_raw};
-use std::alloc::Global;
-use std::process::Abort;
-
-// The stream is read as a receipt.
-fn read(rt: &impl Abort, alloc: Global, stream: &[u8]) -> ReceiptContent {
-    match read_raw(alloc, LineWidth::usual(), &mut MemoryIn::new(stream, 7)) {
-        Ok(content) => content,
-        Err(_) => panic!(rt; "no receipt"),
-    }
-}
-
-fn does(
-    rt: &impl Abort,
-    alloc: Global,
-    store: MemoryStore,
-    word: Word<'_>,
-    wanted: Told,
-) -> MemoryStore {
-    let mut room = [0; 64];
-    let mut output = MemoryOut::new(&mut room);
-    let (store, status) = done_with(alloc, (store, NoLine), word, &mut output);
-    is_told(rt, (output.written(), status), wanted);
-    store
-}
-
-// These bytes, after an opening mark and ESC @, and before a closing mark. The printer is asked twice to tell its condition.
-fn between_marks(rt: &impl Abort, alloc: Global, bytes: &[u8]) -> Vec<u8> {
-    let mut all = Vec::new(alloc);
-    for part in [
-        b"\x1da\x0e\x1d(H\x06\x00000000\x1da\x0e\x1b@".as_slice(),
-        bytes,
-        b"\x1d(H\x06\x00000001".as_slice(),
-    ] {
-        all.extend_from_slice(part).expect(rt, "memory");
-    }
-    all
-}
-
-// The first receipt that waits is delivered over a link on which its two marks are answered.
-fn sends(rt: &impl Abort, alloc: Global, store: MemoryStore, wanted: &[u8]) {
-    let (mut sent, mut room) = ([0; 200], [0; 64]);
-    let mut output = MemoryOut::new(&mut room);
-    let answers = b"\x37\x220000\x00\x37\x220001\x00".as_slice();
-    let line = line_over(answers, &mut sent);
-    let delivery = delivery_to(printer_address());
-    let (_store, _status) = done_with(alloc, (store, line), Word::Deliver(delivery), &mut output);
-    assert!(rt; output.written().starts_with(b"recorded 1\n"));
-    assert!(rt; sent.starts_with(&between_marks(rt, alloc, wanted)));
-}
+use escpos_till_jobs::{read_raw, refuse_raw};
 
 // A stream, and what is sent of it.
 const TAKEN: [(&[u8], &[u8]); 7] = [
@@ -88,20 +37,12 @@ const TAKEN: [(&[u8], &[u8]); 7] = [
 #[test]
 fn sent_as_they_are(rt: HostRuntime) {
     for (stream, wanted) in TAKEN {
-        let store = store_of(&rt, rt.alloc(), &[]);
-        let content = read(&rt, rt.alloc(), stream);
-        let queued = ("queued 1\n", Status::Good);
-        let store = does(
-            &rt,
-            rt.alloc(),
-            store,
-            Word::Queue { content, key: None },
-            queued,
-        );
-        let queued = ("queued 2\n", Status::Good);
-        let again = Word::Again(number(&rt, 1));
-        let store = does(&rt, rt.alloc(), store, again, queued);
-        sends(&rt, rt.alloc(), store, wanted);
+        let steps = [
+            Step::QueueRaw(stream, ("queued 1\n", Status::Good)),
+            Step::Again(1, ("queued 2\n", Status::Good)),
+            Step::DeliverFirst(wanted),
+        ];
+        plays(&rt, rt.alloc(), &[], &steps);
     }
 }
 

@@ -30,9 +30,12 @@ pub type Told = (&'static str, Status);
 
 pub const FAILED: Told = ("ledger failed\n", Status::Device);
 
-pub fn is_told(rt: &impl Abort, (put, status): (&[u8], Status), wanted: Told) {
-    assert!(rt; put == wanted.0.as_bytes());
-    assert!(rt; status == wanted.1);
+pub fn is_told(rt: &impl Abort, told: (&[u8], Status), wanted: Told) {
+    assert!(rt; says_so(told, wanted), "{wanted:?}");
+}
+
+pub fn says_so((put, status): (&[u8], Status), wanted: Told) -> bool {
+    put == wanted.0.as_bytes() && status == wanted.1
 }
 
 // S as it is read.
