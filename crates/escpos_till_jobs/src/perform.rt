@@ -153,9 +153,7 @@ pub fn perform_till<
         TillTask::Renew { ledger, new } => {
             renew_ledger(alloc, shared, news, &ledger, &new, output)
         }
-        TillTask::List { ledger, first } => {
-            list_at(alloc, ledgers, &ledger, first, output)
-        }
+        TillTask::List { ledger, first } => { list_at(alloc, ledgers, &ledger, first, output) }
     }
 }
 
