@@ -23,34 +23,36 @@ const FOUR: [Plain; 9] = [
     Plain::Cancelled(4),
 ];
 
+const TAKEN_ONCE_MORE: &[Step] = &[
+    Step::Again(5, ("refused NotTaken 5\n", Status::Refused)),
+    Step::Again(1, ("queued 5\n", Status::Good)),
+    Step::Again(2, ("queued 6\n", Status::Good)),
+    Step::Again(3, ("queued 7\n", Status::Good)),
+    Step::Again(4, ("queued 8\n", Status::Good)),
+    Step::Again(5, ("queued 9\n", Status::Good)),
+    Step::Again(10, ("refused NotTaken 10\n", Status::Refused)),
+    Step::Again(
+        18_446_744_073_709_551_615,
+        ("refused NotTaken 18446744073709551615\n", Status::Refused),
+    ),
+    Step::Kept(14),
+];
+
 // Any receipt that was taken is taken once more, whatever became of it.
 #[test]
 fn taken_once_more(rt: HostRuntime) {
-    let steps = [
-        Step::Again(5, ("refused NotTaken 5\n", Status::Refused)),
-        Step::Again(1, ("queued 5\n", Status::Good)),
-        Step::Again(2, ("queued 6\n", Status::Good)),
-        Step::Again(3, ("queued 7\n", Status::Good)),
-        Step::Again(4, ("queued 8\n", Status::Good)),
-        Step::Again(5, ("queued 9\n", Status::Good)),
-        Step::Again(10, ("refused NotTaken 10\n", Status::Refused)),
-        Step::Again(
-            18_446_744_073_709_551_615,
-            ("refused NotTaken 18446744073709551615\n", Status::Refused),
-        ),
-        Step::Kept(14),
-    ];
-    plays(&rt, rt.alloc(), &FOUR, &steps);
+    plays(&rt, rt.alloc(), &FOUR, TAKEN_ONCE_MORE);
 }
+
+const NONE_TAKEN: &[Step] = &[
+    Step::Again(1, ("refused NotTaken 1\n", Status::Refused)),
+    Step::Kept(1),
+];
 
 // No receipt was taken.
 #[test]
 fn none_taken(rt: HostRuntime) {
-    let steps = [
-        Step::Again(1, ("refused NotTaken 1\n", Status::Refused)),
-        Step::Kept(1),
-    ];
-    plays(&rt, rt.alloc(), &[Plain::Raised(7)], &steps);
+    plays(&rt, rt.alloc(), &[Plain::Raised(7)], NONE_TAKEN);
 }
 
 fn content(rt: &impl Abort, alloc: Global, (dots, replacement): (u16, u8), text: &[u8]) -> Content {
@@ -90,26 +92,33 @@ fn same_content(rt: HostRuntime) {
     plays_over(&rt, rt.alloc(), three(&rt, rt.alloc()), &steps);
 }
 
+const NOT_KEPT: &[Step] = &[
+    Step::Again(1, ("queued 2\n", Status::Good)),
+    Step::Again(1, FAILED),
+    Step::Kept(2),
+];
+
 // Where the entry can't be kept, the word says so.
 #[test]
 fn not_kept(rt: HostRuntime) {
     let mut entries = Vec::new(rt.alloc());
     let content = content(&rt, rt.alloc(), (512, b'?'), S);
     let _ = entries.push(Entry::Queued { content });
-    let steps = [
-        Step::Again(1, ("queued 2\n", Status::Good)),
-        Step::Again(1, FAILED),
-        Step::Kept(2),
-    ];
-    plays_failing(&rt, rt.alloc(), entries, 1, &steps);
+    plays_failing(&rt, rt.alloc(), entries, 1, NOT_KEPT);
 }
+
+const NO_LEDGER: &[Step] = &[
+    Step::Again(1, ("no ledger\n", Status::Device)),
+    Step::Kept(2),
+];
 
 // Entries that no ledger has: the word says so, and leaves them.
 #[test]
 fn no_ledger(rt: HostRuntime) {
-    let steps = [
-        Step::Again(1, ("no ledger\n", Status::Device)),
-        Step::Kept(2),
-    ];
-    plays(&rt, rt.alloc(), &[Plain::Taken, Plain::Recorded(1)], &steps);
+    plays(
+        &rt,
+        rt.alloc(),
+        &[Plain::Taken, Plain::Recorded(1)],
+        NO_LEDGER,
+    );
 }

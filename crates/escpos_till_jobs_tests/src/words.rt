@@ -16,53 +16,62 @@ use std::alloc::Global;
 use std::net::SocketAddrV4;
 use std::process::Abort;
 
+const QUEUED_AND_LISTED: &[Step] = &[
+    Step::List(None, ("next 0\n", Status::Good)),
+    Step::Queue(S, ("queued 1\n", Status::Good)),
+    Step::Queue(
+        b"[{\"text\":\"Hi\"}]",
+        ("refused 3 TextLeft\n", Status::Refused),
+    ),
+    Step::Queue(A, ("queued 2\n", Status::Good)),
+    Step::List(None, ("1 waiting\n2 waiting\nnext 0\n", Status::Good)),
+];
+
 // Two receipts are taken, and one that is none is refused.
 #[test]
 fn queued_and_listed(rt: HostRuntime) {
-    let steps = [
-        Step::List(None, ("next 0\n", Status::Good)),
-        Step::Queue(S, ("queued 1\n", Status::Good)),
-        Step::Queue(
-            b"[{\"text\":\"Hi\"}]",
-            ("refused 3 TextLeft\n", Status::Refused),
-        ),
-        Step::Queue(A, ("queued 2\n", Status::Good)),
-        Step::List(None, ("1 waiting\n2 waiting\nnext 0\n", Status::Good)),
-    ];
-    plays(&rt, rt.alloc(), &[], &steps);
+    plays(&rt, rt.alloc(), &[], QUEUED_AND_LISTED);
 }
+
+const QUEUED_WITH_KEYS: &[Step] = &[
+    Step::QueueWithKey(S, b"sale-7", ("queued 1\n", Status::Good)),
+    Step::QueueWithKey(S, b"sale-7", ("queued 1\n", Status::Good)),
+    Step::QueueWithKey(A, b"sale-7", ("queued 1\n", Status::Good)),
+    Step::QueueWithKey(S, b"sale-8", ("queued 2\n", Status::Good)),
+    Step::QueueWithKey(S, b"sale-7", ("queued 1\n", Status::Good)),
+    Step::Queue(S, ("queued 3\n", Status::Good)),
+    Step::List(
+        None,
+        ("1 waiting\n2 waiting\n3 waiting\nnext 0\n", Status::Good),
+    ),
+    Step::Kept(5),
+];
 
 // A key that is known has its receipt's number printed, and adds nothing.
 #[test]
 fn queued_with_keys(rt: HostRuntime) {
-    let steps = [
-        Step::QueueWithKey(S, b"sale-7", ("queued 1\n", Status::Good)),
-        Step::QueueWithKey(S, b"sale-7", ("queued 1\n", Status::Good)),
-        Step::QueueWithKey(A, b"sale-7", ("queued 1\n", Status::Good)),
-        Step::QueueWithKey(S, b"sale-8", ("queued 2\n", Status::Good)),
-        Step::QueueWithKey(S, b"sale-7", ("queued 1\n", Status::Good)),
-        Step::Queue(S, ("queued 3\n", Status::Good)),
-        Step::List(
-            None,
-            ("1 waiting\n2 waiting\n3 waiting\nnext 0\n", Status::Good),
-        ),
-        Step::Kept(5),
-    ];
-    plays(&rt, rt.alloc(), &[], &steps);
+    plays(&rt, rt.alloc(), &[], QUEUED_WITH_KEYS);
 }
+
+const QUEUED_WITH_A_VOID_KEY: &[Step] = &[
+    Step::QueueWithKey(S, b"sale-7", FAILED),
+    Step::Crash,
+    Step::List(None, ("next 0\n", Status::Good)),
+    Step::Queue(A, ("queued 1\n", Status::Good)),
+    Step::QueueWithKey(S, b"sale-7", ("queued 2\n", Status::Good)),
+    Step::QueueWithKey(S, b"sale-7", ("queued 2\n", Status::Good)),
+];
 
 // A store that fails within a receipt with a key: the key is void, and may come again.
 #[test]
 fn queued_with_a_void_key(rt: HostRuntime) {
-    let steps = [
-        Step::QueueWithKey(S, b"sale-7", FAILED),
-        Step::Crash,
-        Step::List(None, ("next 0\n", Status::Good)),
-        Step::Queue(A, ("queued 1\n", Status::Good)),
-        Step::QueueWithKey(S, b"sale-7", ("queued 2\n", Status::Good)),
-        Step::QueueWithKey(S, b"sale-7", ("queued 2\n", Status::Good)),
-    ];
-    plays_failing(&rt, rt.alloc(), Vec::new(rt.alloc()), 1, &steps);
+    plays_failing(
+        &rt,
+        rt.alloc(),
+        Vec::new(rt.alloc()),
+        1,
+        QUEUED_WITH_A_VOID_KEY,
+    );
 }
 
 // The first is recorded, the second tried.
@@ -74,23 +83,28 @@ const TRIED: [Plain; 5] = [
     Plain::Tried(2, 4),
 ];
 
+const RAISED_AND_LISTED_1: &[Step] = &[Step::List(
+    None,
+    ("1 tried 1\n2 waiting\nnext 2\n", Status::Good),
+)];
+
+const RAISED_AND_LISTED_2: &[Step] = &[
+    Step::List(None, ("1 recorded 0\n2 tried 1\nnext 4\n", Status::Good)),
+    Step::List(Some(3), ("refused MarkReused 4\n", Status::Refused)),
+    Step::List(
+        Some(1_679_617),
+        ("refused MarkTooHigh 1679616\n", Status::Refused),
+    ),
+    Step::List(Some(4), ("1 recorded 0\n2 tried 1\nnext 4\n", Status::Good)),
+    Step::List(Some(7), ("1 recorded 0\n2 tried 1\nnext 7\n", Status::Good)),
+    Step::List(None, ("1 recorded 0\n2 tried 1\nnext 7\n", Status::Good)),
+];
+
 // The next number is raised, and never falls.
 #[test]
 fn raised_and_listed(rt: HostRuntime) {
-    let steps = [Step::List(None, ("1 tried 1\n2 waiting\nnext 2\n", Status::Good))];
-    plays(&rt, rt.alloc(), &TRIED[..3], &steps);
-    let steps = [
-        Step::List(None, ("1 recorded 0\n2 tried 1\nnext 4\n", Status::Good)),
-        Step::List(Some(3), ("refused MarkReused 4\n", Status::Refused)),
-        Step::List(
-            Some(1_679_617),
-            ("refused MarkTooHigh 1679616\n", Status::Refused),
-        ),
-        Step::List(Some(4), ("1 recorded 0\n2 tried 1\nnext 4\n", Status::Good)),
-        Step::List(Some(7), ("1 recorded 0\n2 tried 1\nnext 7\n", Status::Good)),
-        Step::List(None, ("1 recorded 0\n2 tried 1\nnext 7\n", Status::Good)),
-    ];
-    plays(&rt, rt.alloc(), &TRIED, &steps);
+    plays(&rt, rt.alloc(), &TRIED[..3], RAISED_AND_LISTED_1);
+    plays(&rt, rt.alloc(), &TRIED, RAISED_AND_LISTED_2);
 }
 
 // The first is recorded, the second tried, the third waits, and the fourth was cancelled after it was tried. There is no fifth.
@@ -106,24 +120,25 @@ const FOUR: [Plain; 9] = [
     Plain::Cancelled(4),
 ];
 
+const CANCELLED: &[Step] = &[
+    Step::Cancel(1, ("refused Recorded 1\n", Status::Refused)),
+    Step::Cancel(2, ("cancelled 2 tried 1\n", Status::Good)),
+    Step::Cancel(2, ("refused Cancelled 2\n", Status::Refused)),
+    Step::Cancel(3, ("cancelled 3\n", Status::Good)),
+    Step::Cancel(3, ("refused Cancelled 3\n", Status::Refused)),
+    Step::Cancel(4, ("refused Cancelled 4\n", Status::Refused)),
+    Step::Cancel(5, ("refused NotTaken 5\n", Status::Refused)),
+    Step::Cancel(
+        18_446_744_073_709_551_615,
+        ("refused NotTaken 18446744073709551615\n", Status::Refused),
+    ),
+    Step::Kept(11),
+];
+
 // Only a receipt that waits is cancelled; the next mark number is as it was.
 #[test]
 fn cancelled(rt: HostRuntime) {
-    let steps = [
-        Step::Cancel(1, ("refused Recorded 1\n", Status::Refused)),
-        Step::Cancel(2, ("cancelled 2 tried 1\n", Status::Good)),
-        Step::Cancel(2, ("refused Cancelled 2\n", Status::Refused)),
-        Step::Cancel(3, ("cancelled 3\n", Status::Good)),
-        Step::Cancel(3, ("refused Cancelled 3\n", Status::Refused)),
-        Step::Cancel(4, ("refused Cancelled 4\n", Status::Refused)),
-        Step::Cancel(5, ("refused NotTaken 5\n", Status::Refused)),
-        Step::Cancel(
-            18_446_744_073_709_551_615,
-            ("refused NotTaken 18446744073709551615\n", Status::Refused),
-        ),
-        Step::Kept(11),
-    ];
-    plays(&rt, rt.alloc(), &FOUR, &steps);
+    plays(&rt, rt.alloc(), &FOUR, CANCELLED);
 }
 
 const TWICE: [Plain; 4] = [
@@ -133,21 +148,28 @@ const TWICE: [Plain; 4] = [
     Plain::Taken,
 ];
 
+const CANCELLED_AND_LISTED_1: &[Step] = &[
+    Step::Cancel(1, ("cancelled 1\n", Status::Good)),
+    Step::List(None, ("1 cancelled\n2 waiting\nnext 0\n", Status::Good)),
+];
+
+const CANCELLED_AND_LISTED_2: &[Step] = &[
+    Step::Cancel(1, ("cancelled 1 tried 2\n", Status::Good)),
+    Step::List(
+        None,
+        ("1 cancelled tried 2\n2 waiting\nnext 4\n", Status::Good),
+    ),
+];
+
 #[test]
 fn cancelled_and_listed(rt: HostRuntime) {
-    let steps = [
-        Step::Cancel(1, ("cancelled 1\n", Status::Good)),
-        Step::List(None, ("1 cancelled\n2 waiting\nnext 0\n", Status::Good)),
-    ];
-    plays(&rt, rt.alloc(), &[Plain::Taken, Plain::Taken], &steps);
-    let steps = [
-        Step::Cancel(1, ("cancelled 1 tried 2\n", Status::Good)),
-        Step::List(
-            None,
-            ("1 cancelled tried 2\n2 waiting\nnext 4\n", Status::Good),
-        ),
-    ];
-    plays(&rt, rt.alloc(), &TWICE, &steps);
+    plays(
+        &rt,
+        rt.alloc(),
+        &[Plain::Taken, Plain::Taken],
+        CANCELLED_AND_LISTED_1,
+    );
+    plays(&rt, rt.alloc(), &TWICE, CANCELLED_AND_LISTED_2);
 }
 
 fn delivers<N: Printers>(
@@ -204,45 +226,47 @@ fn delivered_over_a_link(rt: HostRuntime) {
     let _store = does_all(&rt, rt.alloc(), store, &[Step::List(None, listed)]);
 }
 
+const SENT_AGAIN_AS_A_COPY: &[Step] = &[
+    Step::Deliver(
+        b"",
+        b"\x1Da\x0E\x1D(H\x06\x00000000\x1D(H\x06\x00000001",
+        ("waiting 1 Ended\n", Status::Device),
+    ),
+    Step::List(None, ("1 tried 1\nnext 3\n", Status::Good)),
+    Step::Deliver(
+        b"\x37\x220003\x00\x37\x220005\x00",
+        b"\x1Da\x0E\x1D(H\x06\x00000003\x1D(H\x06\x00000004\x1Da\x0E\x1B@\x1Ba\x01\x1BE\x01AGAIN\n\x1BE\x00\x1Ba\x00Hi\n\x1D(H\x06\x00000005",
+        ("recorded 1\n", Status::Good),
+    ),
+    Step::List(None, ("1 recorded 0\nnext 6\n", Status::Good)),
+];
+
 // No mark is answered: the receipt waits, with three numbers used. It is sent again as a copy, with numbers of its own.
 #[test]
 fn sent_again_as_a_copy(rt: HostRuntime) {
-    let steps = [
-        Step::Deliver(
-            b"",
-            b"\x1Da\x0E\x1D(H\x06\x00000000\x1D(H\x06\x00000001",
-            ("waiting 1 Ended\n", Status::Device),
-        ),
-        Step::List(None, ("1 tried 1\nnext 3\n", Status::Good)),
-        Step::Deliver(
-            b"\x37\x220003\x00\x37\x220005\x00",
-            b"\x1Da\x0E\x1D(H\x06\x00000003\x1D(H\x06\x00000004\x1Da\x0E\x1B@\x1Ba\x01\x1BE\x01AGAIN\n\x1BE\x00\x1Ba\x00Hi\n\x1D(H\x06\x00000005",
-            ("recorded 1\n", Status::Good),
-        ),
-        Step::List(None, ("1 recorded 0\nnext 6\n", Status::Good)),
-    ];
-    plays(&rt, rt.alloc(), &[Plain::Taken], &steps);
+    plays(&rt, rt.alloc(), &[Plain::Taken], SENT_AGAIN_AS_A_COPY);
 }
+
+const RECORDED_LATE: &[Step] = &[
+    Step::Deliver(
+        b"\x37\x220000\x00",
+        b"\x1Da\x0E\x1D(H\x06\x00000000\x1D(H\x06\x00000001\x1Da\x0E\x1B@Hi\n\x1D(H\x06\x00000002",
+        ("waiting 1 Ended\n", Status::Device),
+    ),
+    Step::List(None, ("1 tried 1\nnext 3\n", Status::Good)),
+    Step::Deliver(
+        b"\x14\x00\x00\x0F\x37\x220001\x00\x37\x220002\x00",
+        b"\x1Da\x0E\x1D(H\x06\x00000003\x1D(H\x06\x00000004",
+        ("recorded 1\n", Status::Good),
+    ),
+    Step::List(None, ("1 recorded 0\nnext 6\n", Status::Good)),
+];
 
 // The link ends before the receipt's mark is answered. It is answered late: on the next link, after a block of automatic status and
 // before an opening mark's answer. The receipt is recorded, and no copy is sent.
 #[test]
 fn recorded_late(rt: HostRuntime) {
-    let steps = [
-        Step::Deliver(
-            b"\x37\x220000\x00",
-            b"\x1Da\x0E\x1D(H\x06\x00000000\x1D(H\x06\x00000001\x1Da\x0E\x1B@Hi\n\x1D(H\x06\x00000002",
-            ("waiting 1 Ended\n", Status::Device),
-        ),
-        Step::List(None, ("1 tried 1\nnext 3\n", Status::Good)),
-        Step::Deliver(
-            b"\x14\x00\x00\x0F\x37\x220001\x00\x37\x220002\x00",
-            b"\x1Da\x0E\x1D(H\x06\x00000003\x1D(H\x06\x00000004",
-            ("recorded 1\n", Status::Good),
-        ),
-        Step::List(None, ("1 recorded 0\nnext 6\n", Status::Good)),
-    ];
-    plays(&rt, rt.alloc(), &[Plain::Taken], &steps);
+    plays(&rt, rt.alloc(), &[Plain::Taken], RECORDED_LATE);
 }
 
 // The paper ends before the receipt's mark is answered, the cover is opened, the paper is in again, and the mark is answered: each pause
@@ -260,18 +284,19 @@ fn told_that_it_pauses(rt: HostRuntime) {
     plays(&rt, rt.alloc(), &[Plain::Taken], &steps);
 }
 
+const ENDED_WHILE_IT_PAUSES: &[Step] = &[
+    Step::Deliver(
+        b"\x18\x00\x00\x00",
+        b"\x1Da\x0E\x1D(H\x06\x00000000\x1D(H\x06\x00000001",
+        ("paused 1 offline\nwaiting 1 Ended\n", Status::Device),
+    ),
+    Step::List(None, ("1 tried 1\nnext 3\n", Status::Good)),
+];
+
 // The printer goes offline, and then the link ends: that is why the receipt waits.
 #[test]
 fn ended_while_it_pauses(rt: HostRuntime) {
-    let steps = [
-        Step::Deliver(
-            b"\x18\x00\x00\x00",
-            b"\x1Da\x0E\x1D(H\x06\x00000000\x1D(H\x06\x00000001",
-            ("paused 1 offline\nwaiting 1 Ended\n", Status::Device),
-        ),
-        Step::List(None, ("1 tried 1\nnext 3\n", Status::Good)),
-    ];
-    plays(&rt, rt.alloc(), &[Plain::Taken], &steps);
+    plays(&rt, rt.alloc(), &[Plain::Taken], ENDED_WHILE_IT_PAUSES);
 }
 
 // A text for a line of 384 dots, with a character that no code table has: it is refused unless there is a replacement, and sent as
@@ -291,23 +316,34 @@ fn sent_with_options(rt: HostRuntime) {
     plays(&rt, rt.alloc(), &[], &steps);
 }
 
+const NEXT_SENT_AFTER_A_CANCEL: &[Step] = &[
+    Step::Queue(S, ("queued 1\n", Status::Good)),
+    Step::Queue(A, ("queued 2\n", Status::Good)),
+    Step::Cancel(1, ("cancelled 1\n", Status::Good)),
+    Step::Deliver(
+        b"\x37\x220000\x00\x37\x220001\x00\x37\x220002\x00",
+        b"\x1Da\x0E\x1D(H\x06\x00000000\x1D(H\x06\x00000001\x1Da\x0E\x1B@A\n\x1D(H\x06\x00000002",
+        ("recorded 2\n", Status::Good),
+    ),
+    Step::Deliver(b"", b"", ("", Status::Good)),
+    Step::List(None, ("1 cancelled\n2 recorded 0\nnext 3\n", Status::Good)),
+];
+
 // The first receipt is cancelled: the second is the one that is sent. Once none waits, nothing is.
 #[test]
 fn next_sent_after_a_cancel(rt: HostRuntime) {
-    let steps = [
-        Step::Queue(S, ("queued 1\n", Status::Good)),
-        Step::Queue(A, ("queued 2\n", Status::Good)),
-        Step::Cancel(1, ("cancelled 1\n", Status::Good)),
-        Step::Deliver(
-            b"\x37\x220000\x00\x37\x220001\x00\x37\x220002\x00",
-            b"\x1Da\x0E\x1D(H\x06\x00000000\x1D(H\x06\x00000001\x1Da\x0E\x1B@A\n\x1D(H\x06\x00000002",
-            ("recorded 2\n", Status::Good),
-        ),
-        Step::Deliver(b"", b"", ("", Status::Good)),
-        Step::List(None, ("1 cancelled\n2 recorded 0\nnext 3\n", Status::Good)),
-    ];
-    plays(&rt, rt.alloc(), &[], &steps);
+    plays(&rt, rt.alloc(), &[], NEXT_SENT_AFTER_A_CANCEL);
 }
+
+const SENT_AFTER_TWELVE_TRIES: &[Step] = &[
+    Step::List(None, ("1 tried 12\nnext 12\n", Status::Good)),
+    Step::Deliver(
+        b"",
+        b"\x1Da\x0E\x1D(H\x06\x0000000C\x1D(H\x06\x0000000D",
+        ("waiting 1 Ended\n", Status::Device),
+    ),
+    Step::List(None, ("1 tried 13\nnext 15\n", Status::Good)),
+];
 
 // However often a receipt was tried, it is sent once more.
 #[test]
@@ -316,27 +352,19 @@ fn sent_after_twelve_tries(rt: HostRuntime) {
     for at in 1..13u32 {
         entries[at as usize] = Plain::Tried(1, at);
     }
-    let steps = [
-        Step::List(None, ("1 tried 12\nnext 12\n", Status::Good)),
-        Step::Deliver(
-            b"",
-            b"\x1Da\x0E\x1D(H\x06\x0000000C\x1D(H\x06\x0000000D",
-            ("waiting 1 Ended\n", Status::Device),
-        ),
-        Step::List(None, ("1 tried 13\nnext 15\n", Status::Good)),
-    ];
-    plays(&rt, rt.alloc(), &entries, &steps);
+    plays(&rt, rt.alloc(), &entries, SENT_AFTER_TWELVE_TRIES);
 }
+
+const FAILED_OUTPUT: &[Step] = &[
+    Step::QueueUnheard(S),
+    Step::ListUnheard,
+    Step::List(None, ("1 waiting\nnext 0\n", Status::Good)),
+];
 
 // An output that fails is a device that fails; what was taken is taken.
 #[test]
 fn failed_output(rt: HostRuntime) {
-    let steps = [
-        Step::QueueUnheard(S),
-        Step::ListUnheard,
-        Step::List(None, ("1 waiting\nnext 0\n", Status::Good)),
-    ];
-    plays(&rt, rt.alloc(), &[], &steps);
+    plays(&rt, rt.alloc(), &[], FAILED_OUTPUT);
 }
 
 #[test]
@@ -355,17 +383,18 @@ fn no_store(rt: HostRuntime) {
     }
 }
 
+const DAMAGED: &[Step] = &[
+    Step::List(None, ("no ledger\n", Status::Device)),
+    Step::Queue(S, ("no ledger\n", Status::Device)),
+    Step::Cancel(1, ("no ledger\n", Status::Device)),
+    Step::Deliver(b"", b"", ("no ledger\n", Status::Device)),
+    Step::Kept(1),
+];
+
 // Entries that no ledger has: each word says so, and leaves them.
 #[test]
 fn damaged(rt: HostRuntime) {
-    let steps = [
-        Step::List(None, ("no ledger\n", Status::Device)),
-        Step::Queue(S, ("no ledger\n", Status::Device)),
-        Step::Cancel(1, ("no ledger\n", Status::Device)),
-        Step::Deliver(b"", b"", ("no ledger\n", Status::Device)),
-        Step::Kept(1),
-    ];
-    plays(&rt, rt.alloc(), &[Plain::Recorded(1)], &steps);
+    plays(&rt, rt.alloc(), &[Plain::Recorded(1)], DAMAGED);
 }
 
 // So many entries.

@@ -1,8 +1,7 @@
 //! The host at length: many links with many receipts, and the largest receipt.
 
-use crate::support::hosts::{ANSWER_1, ANSWER_2, Step, plays, records_of};
+use crate::support::hosts::{ANSWER_1, ANSWER_2, Event, Step, plays, records_of};
 use crate::support::wide::Wide;
-use escpos_host::HostEvent;
 use escpos_test_receipts::{A, B};
 
 #[test]
@@ -10,18 +9,19 @@ fn long_run(rt: HostRuntime) {
     plays(&rt, rt.alloc(), 0, &[Step::LongRun(1100)]);
 }
 
+const ROOM_OF_RECORDS: &[Step] = &[
+    Step::Open,
+    Step::Submit(A),
+    Step::Submit(B),
+    Step::Hear(ANSWER_1, Event::Recorded(0)),
+    Step::Hear(ANSWER_2, Event::Recorded(1)),
+];
+
 // The room of the records grows with them, by more than one record at a time.
 #[test]
 fn room_of_records(rt: HostRuntime) {
     assert!(&rt; records_of(&rt, rt.alloc(), &[]).capacity() == 0);
-    let steps = [
-        Step::Open,
-        Step::Submit(A),
-        Step::Submit(B),
-        Step::Hear(ANSWER_1, HostEvent::Recorded(0)),
-        Step::Hear(ANSWER_2, HostEvent::Recorded(1)),
-    ];
-    assert!(&rt; records_of(&rt, rt.alloc(), &steps).capacity() <= 16);
+    assert!(&rt; records_of(&rt, rt.alloc(), ROOM_OF_RECORDS).capacity() <= 16);
     let capacity = records_of(&rt, rt.alloc(), &[Step::LongRun(1100)]).capacity();
     assert!(&rt; capacity > 1100 + 4);
     assert!(&rt; capacity <= 4 * 1100);

@@ -2,7 +2,7 @@
 
 use crate::support::calls::{Call, Step, plays};
 use crate::support::hosts::ANSWER_0;
-use escpos_host::{HostEvent, JsonError, Receipt};
+use escpos_host::{JsonError, Receipt};
 use escpos_io::MemoryOut;
 use escpos_test_receipts::{EVERY_MEMBER, read_receipt};
 use std::alloc::Global;
@@ -64,7 +64,7 @@ fn host_allocations_fail(rt: HostRuntime) {
     let requests = [
         Step::Make(Call::LinkUp, 1),
         Step::Out(b"\x1D(H\x06\x00000000"),
-        Step::Hear(ANSWER_0, HostEvent::Opened),
+        Step::Open(ANSWER_0),
         Step::Make(Call::Ask, 8),
         Step::Submit,
         Step::Out(
@@ -78,7 +78,7 @@ fn host_allocations_fail(rt: HostRuntime) {
     let reports = [
         Step::Make(Call::LinkUpReporting, 1),
         Step::Out(b"\x1Da\x0E\x1D(H\x06\x00000000"),
-        Step::Hear(ANSWER_0, HostEvent::Opened),
+        Step::Open(ANSWER_0),
         Step::Make(Call::AskReports, 5),
         Step::Out(b"\x1Da\x0E\x1Da\x0E\x1Da\x0E\x1Da\x0E\x1Da\x0E"),
     ];

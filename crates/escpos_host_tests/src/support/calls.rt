@@ -22,8 +22,8 @@ pub enum Step<'a> {
     Submit,
     /// This is taken out, and then there is no more.
     Out(&'a [u8]),
-    /// A piece is heard, with this event at its end.
-    Hear(&'a [u8], HostEvent),
+    /// A piece is heard, which opens the link.
+    Open(&'a [u8]),
     /// The link goes down, and S is left.
     Left,
     /// S is sent with five opening marks. Memory is taken at the first of them, at the fifth, and at S.
@@ -59,7 +59,7 @@ fn does(host: &mut Host, alloc: Global, step: &Step) -> Option<u32> {
         Step::Make(call, count) => makes_calls(host, *call, *count),
         Step::Submit => submits(host, receipt_at_last(alloc).ok()?),
         Step::Out(bytes) => none_refused(puts_out(host, bytes)),
-        Step::Hear(piece, event) => none_refused(hears(host, piece, piece.len(), *event)),
+        Step::Open(piece) => none_refused(hears(host, piece, piece.len(), HostEvent::Opened)),
         Step::Left => none_refused(leaves(host)),
         Step::Send => sends(host, receipt_at_last(alloc).ok()?),
         Step::OpenReporting => opens_reporting(host),

@@ -26,6 +26,15 @@ pub const ANSWER_5: &[u8] = b"\x37\x220005\x00";
 
 pub const ANSWER_6: &[u8] = b"\x37\x220006\x00";
 
+/// What is heard, in a constant. (A `HostEvent` may hold a mark or a block, which no constant can.)
+#[derive(Clone, Copy)]
+pub enum Event {
+    None,
+    Opened,
+    Recorded(usize),
+    Status(u8),
+}
+
 /// What is done to a host, and what must come of it. A receipt stands here as its text and the line that it prints.
 #[derive(Clone, Copy)]
 pub enum Step<'a> {
@@ -56,9 +65,9 @@ pub enum Step<'a> {
     /// A receipt comes back, for this reason, and no mark is used.
     NoSubmit((&'a [u8], &'a [u8]), HostError),
     /// A piece is heard, with this event at its end.
-    Hear(&'a [u8], HostEvent),
+    Hear(&'a [u8], Event),
     /// So many bytes of a piece are heard, with this event.
-    HearSome(&'a [u8], usize, HostEvent),
+    HearSome(&'a [u8], usize, Event),
     /// The answer to a mark of an older link is heard, with this id.
     HearLate(&'a [u8], [u8; 4]),
     /// So many bytes of a piece are heard, with the block with these bytes.
@@ -182,8 +191,8 @@ fn calls(host: &mut Host, step: &Step) -> bool {
 // Hears a piece, or takes out what there is.
 fn takes(host: &mut Host, step: &Step) -> bool {
     match step {
-        Step::Hear(piece, event) => hears(host, piece, piece.len(), *event),
-        Step::HearSome(piece, consumed, event) => hears(host, piece, *consumed, *event),
+        Step::Hear(piece, event) => hears(host, piece, piece.len(), event_of(*event)),
+        Step::HearSome(piece, consumed, event) => hears(host, piece, *consumed, event_of(*event)),
         Step::HearLate(piece, id) => hears_late(host, piece, *id),
         Step::HearBlock(piece, consumed, block) => hears_block(host, piece, *consumed, *block),
         Step::BadAnswer(piece, at) => hears_badly(host, piece, *at),
@@ -255,6 +264,15 @@ fn hands_back(host: &mut Host, alloc: Global, text: &[u8], line: &[u8], wanted: 
         Err((why, back)) => {
             why == wanted && are_line(back.commands(), line) && host.next_mark() == next
         }
+    }
+}
+
+fn event_of(event: Event) -> HostEvent {
+    match event {
+        Event::None => HostEvent::None,
+        Event::Opened => HostEvent::Opened,
+        Event::Recorded(number) => HostEvent::Recorded(number),
+        Event::Status(byte) => HostEvent::Status(byte),
     }
 }
 

@@ -96,10 +96,14 @@ fn sends_over(
         Ok(receipt) => {
             let max_bytes = sending.link.max_bytes;
             let sent = send(host, receipt, sending.openings, reader, writer, max_bytes);
-            is_sent(sent, sending.wanted, line) && writer.written() == sending.written
+            is_sent(sent, sending.wanted, line) && has_written(writer, sending.written)
         }
         Err(_) => false,
     }
+}
+
+fn has_written(writer: &MemoryOut, wanted: &[u8]) -> bool {
+    writer.written() == wanted
 }
 
 // A receipt is recorded under this number, or it comes back for this reason, with this line.

@@ -151,16 +151,17 @@ fn ready_refused(rt: HostRuntime) {
     plays_page(&rt, rt.alloc(), &[PageStep::LineFeedsOnceReady(20)]);
 }
 
+const READY_FOR_A_PRINT_REFUSED: &[PageStep] = &[
+    PageStep::Store,
+    PageStep::PrintOnceReady(0),
+    PageStep::PrintOnceReady(1),
+    PageStep::PrintOnceReady(2),
+    PageStep::Paper(THREE_QR_CODES),
+];
+
 #[test]
 fn ready_for_a_print_refused(rt: HostRuntime) {
-    let steps = [
-        PageStep::Store,
-        PageStep::PrintOnceReady(0),
-        PageStep::PrintOnceReady(1),
-        PageStep::PrintOnceReady(2),
-        PageStep::Paper(THREE_QR_CODES),
-    ];
-    plays_page(&rt, rt.alloc(), &steps);
+    plays_page(&rt, rt.alloc(), READY_FOR_A_PRINT_REFUSED);
 }
 
 // Barcodes and rasters, three times.
@@ -170,93 +171,99 @@ const THREE_OF_BOTH: &[u8] = b"bars left ean8 162 3 none A 55123457\nraster left
 
 const THREE_QR_CODES: &[u8] = b"qr left 2 3 L AB\nqr left 2 3 L AB\nqr left 2 3 L AB\n";
 
+const APPLY_TO_A_STORED_CODE_REFUSED: &[PageStep] = &[
+    PageStep::Store,
+    PageStep::Print,
+    PageStep::Print,
+    PageStep::Print,
+    PageStep::Paper(THREE_QR_CODES),
+    PageStep::TearOff,
+    PageStep::LineFeed,
+    PageStep::Print,
+    PageStep::Paper(b"feed 1\nqr left 2 3 L AB\n"),
+];
+
 // A store, three prints of it, and a line feed between them.
 #[test]
 fn apply_to_a_stored_code_refused(rt: HostRuntime) {
-    let steps = [
-        PageStep::Store,
-        PageStep::Print,
-        PageStep::Print,
-        PageStep::Print,
-        PageStep::Paper(THREE_QR_CODES),
-        PageStep::TearOff,
-        PageStep::LineFeed,
-        PageStep::Print,
-        PageStep::Paper(b"feed 1\nqr left 2 3 L AB\n"),
-    ];
-    plays_page(&rt, rt.alloc(), &steps);
+    plays_page(&rt, rt.alloc(), APPLY_TO_A_STORED_CODE_REFUSED);
 }
+
+const APPLY_REFUSED: &[PageStep] = &[
+    PageStep::Bars,
+    PageStep::Raster,
+    PageStep::Bars,
+    PageStep::Raster,
+    PageStep::Bars,
+    PageStep::Raster,
+    PageStep::Paper(THREE_OF_BOTH),
+    PageStep::TearOff,
+    PageStep::Paper(b""),
+];
 
 #[test]
 fn apply_refused(rt: HostRuntime) {
-    let steps = [
-        PageStep::Bars,
-        PageStep::Raster,
-        PageStep::Bars,
-        PageStep::Raster,
-        PageStep::Bars,
-        PageStep::Raster,
-        PageStep::Paper(THREE_OF_BOTH),
-        PageStep::TearOff,
-        PageStep::Paper(b""),
-    ];
-    plays_page(&rt, rt.alloc(), &steps);
+    plays_page(&rt, rt.alloc(), APPLY_REFUSED);
 }
 
 // Two lines of 42 characters, each of which the line after it has ended.
 const TWO_LINES: &[u8] = b"row left xxxxxxxxxxxxxxxxxxxxxxxxxxxxxxxxxxxxxxxxxx\nfeed 1\n\
     row left xxxxxxxxxxxxxxxxxxxxxxxxxxxxxxxxxxxxxxxxxx\nfeed 1\n";
 
+const APPLY_TEXT_REFUSED: &[PageStep] = &[
+    PageStep::Text,
+    PageStep::Text,
+    PageStep::Text,
+    PageStep::Paper(TWO_LINES),
+];
+
 #[test]
 fn apply_text_refused(rt: HostRuntime) {
-    let steps = [
-        PageStep::Text,
-        PageStep::Text,
-        PageStep::Text,
-        PageStep::Paper(TWO_LINES),
-    ];
-    plays_page(&rt, rt.alloc(), &steps);
+    plays_page(&rt, rt.alloc(), APPLY_TEXT_REFUSED);
 }
 
 const PRINTED: &[u8] =
     b"row left Hi\nfeed 1\nbars left ean8 162 3 none A 55123457\nraster left normal 1 2 f00f\n";
 
+const NEW_PRINTER_REFUSED: &[Step] = &[
+    Step::Online(true),
+    Step::Items(0),
+    Step::Half(0),
+    Step::Waiting(0),
+];
+
 #[test]
 fn new_printer_refused(rt: HostRuntime) {
-    let steps = [
-        Step::Online(true),
-        Step::Items(0),
-        Step::Half(0),
-        Step::Waiting(0),
-    ];
-    plays(&rt, rt.alloc(), ONLINE, &steps);
+    plays(&rt, rt.alloc(), ONLINE, NEW_PRINTER_REFUSED);
 }
+
+const FEED_REFUSED: &[Step] = &[
+    Step::FeedAgain(STREAM),
+    Step::Paper(PRINTED),
+    Step::FeedAgain(BOTH),
+    Step::Items(6),
+    Step::Half(0),
+];
 
 #[test]
 fn feed_refused(rt: HostRuntime) {
-    let steps = [
-        Step::FeedAgain(STREAM),
-        Step::Paper(PRINTED),
-        Step::FeedAgain(BOTH),
-        Step::Items(6),
-        Step::Half(0),
-    ];
-    plays(&rt, rt.alloc(), ONLINE, &steps);
+    plays(&rt, rt.alloc(), ONLINE, FEED_REFUSED);
 }
 
 // Text of three lines, two of which are full.
 const TEXT: &[u8] =
     b"xxxxxxxxxxxxxxxxxxxxxxxxxxxxxxxxxxxxxxxxxxxxxxxxxxxxxxxxxxxxxxxxxxxxxxxxxxxxxxxxxxxxxxxx";
 
+const FEED_OF_TEXT_REFUSED: &[Step] = &[
+    Step::FeedAgain(TEXT),
+    Step::Paper(TWO_LINES),
+    Step::FeedAgain(TEXT),
+    Step::Items(8),
+];
+
 #[test]
 fn feed_of_text_refused(rt: HostRuntime) {
-    let steps = [
-        Step::FeedAgain(TEXT),
-        Step::Paper(TWO_LINES),
-        Step::FeedAgain(TEXT),
-        Step::Items(8),
-    ];
-    plays(&rt, rt.alloc(), ONLINE, &steps);
+    plays(&rt, rt.alloc(), ONLINE, FEED_OF_TEXT_REFUSED);
 }
 
 // A store, a print, a line and two prints more.
@@ -266,10 +273,11 @@ const QR_STREAM: &[u8] =
 const QR_PAPER: &[u8] =
     b"qr left 2 3 L AB\nrow left Hi\nfeed 1\nqr left 2 3 L AB\nqr left 2 3 L AB\n";
 
+const FEED_OF_QR_CODES_REFUSED: &[Step] = &[Step::FeedAgain(QR_STREAM), Step::Paper(QR_PAPER)];
+
 #[test]
 fn feed_of_qr_codes_refused(rt: HostRuntime) {
-    let steps = [Step::FeedAgain(QR_STREAM), Step::Paper(QR_PAPER)];
-    plays(&rt, rt.alloc(), ONLINE, &steps);
+    plays(&rt, rt.alloc(), ONLINE, FEED_OF_QR_CODES_REFUSED);
 }
 
 // A line, a status request, a mark and both; the answers; and how they are served.

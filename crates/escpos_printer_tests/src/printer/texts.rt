@@ -70,28 +70,29 @@ fn faults_in_texts(rt: HostRuntime) {
     plays(&rt, rt.alloc(), ONLINE, FAULTS);
 }
 
+const TEXTS_THAT_WAIT: &[Step] = &[
+    Step::Feed(b"Hi"),
+    Step::Set(OPEN),
+    Step::Offline(b"you", 0),
+    Step::Feed(REQUESTS),
+    Step::Feed(REQUESTS),
+    Step::Feed(REQUESTS),
+    Step::Feed(REQUESTS),
+    Step::Offline(b"you", 0),
+    Step::Set(ONLINE),
+    Step::Full(b"you\x10\x04\x01", 5),
+    Step::Restart,
+    Step::Feed(b"Hi"),
+    Step::Set(OPEN),
+    Step::Offline(b"you\n", 0),
+    Step::Set(ONLINE),
+    Step::Feed(b"you\n"),
+    Step::Paper(b"row left Hiyou\nfeed 1\n"),
+];
+
 // Offline no character is taken, and a status request before it is. While 16 answers wait, text is taken. It continues where it
 // stopped.
 #[test]
 fn texts_that_wait(rt: HostRuntime) {
-    let steps = [
-        Step::Feed(b"Hi"),
-        Step::Set(OPEN),
-        Step::Offline(b"you", 0),
-        Step::Feed(REQUESTS),
-        Step::Feed(REQUESTS),
-        Step::Feed(REQUESTS),
-        Step::Feed(REQUESTS),
-        Step::Offline(b"you", 0),
-        Step::Set(ONLINE),
-        Step::Full(b"you\x10\x04\x01", 5),
-        Step::Restart,
-        Step::Feed(b"Hi"),
-        Step::Set(OPEN),
-        Step::Offline(b"you\n", 0),
-        Step::Set(ONLINE),
-        Step::Feed(b"you\n"),
-        Step::Paper(b"row left Hiyou\nfeed 1\n"),
-    ];
-    plays(&rt, rt.alloc(), ONLINE, &steps);
+    plays(&rt, rt.alloc(), ONLINE, TEXTS_THAT_WAIT);
 }
