@@ -5,7 +5,8 @@
 //!
 //! `paper` is of escpos_paper, and `printer` of escpos_printer; `memory` lets each allocation of a call fail in turn, of the
 //! decoder too. What they share is in `support`, and what the tests of commands and of the decoder take too in
-//! escpos_test_values.
+//! escpos_test_values. Most tests are rows of steps, which are constants where they can be: one function plays a row, and lends
+//! the printer or the page that it owns to a function for each kind of step.
 #![tactic(auto)]
 
 #[cfg(test)]

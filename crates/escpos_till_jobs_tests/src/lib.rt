@@ -5,7 +5,8 @@
 //!
 //! `words` is of what a till's words print, over a store in memory, `again` of a receipt that is taken once more, `raw` of streams of bytes,
 //! and `failing` of those over a store that fails; `tasks` is of what is asked for, done with a ledger at a path; `renewing` is of a new ledger that goes on from an older one; `shared` is of a delivery
-//! meanwhile others add entries; `memory` lets each allocation of a call fail in turn. What they share is in `support`.
+//! meanwhile others add entries; `memory` lets each allocation of a call fail in turn. What they share is in `support`. The tests of words are
+//! rows of steps, which are constants where they can be: one function plays a row, and owns the store.
 #![tactic(auto)]
 
 #[cfg(test)]
