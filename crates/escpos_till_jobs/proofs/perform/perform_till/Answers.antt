@@ -47,7 +47,7 @@ pub returns-in-Cancel-clause-cancel : goal.returns-in-Cancel-clause-cancel
 returns-in-Cancel-clause-cancel g c = subst (OfCancel _) (sym c.in-Cancel.is) (_, c.do_at-in-Cancel.result.0, c.do_at-in-Cancel.ensures.does)
 
 pub returns-in-List-clause-list : goal.returns-in-List-clause-list
-returns-in-List-clause-list g c = subst (OfList _) (sym c.in-List.is) (_, c.do_at-in-List.result.0, c.do_at-in-List.ensures.does)
+returns-in-List-clause-list g c = subst (OfList _) (sym c.in-List.is) c.list_at.ensures.lists
 
 pub returns-in-Renew-clause-renew : goal.returns-in-Renew-clause-renew
 returns-in-Renew-clause-renew g c = subst (OfRenew _) (sym c.in-Renew.is) c.renew_ledger.ensures.renews
