@@ -1,63 +1,66 @@
 //! What a machine learns of others, where memory is refused.
 
-use crate::support::tills::{bytes_at_last, number};
+use crate::support::at_last::{machine_at_last, taken_at_last};
+use crate::support::plain::number;
 use escpos_till::{
-    Action, Content, Entry, NoMachine, NotRenewed, StoreFault, TillMachine, TillRefusal, copies,
-    others_since, renewed,
+    Action, Entry, NotRenewed, StoreFault, TillMachine, TillRefusal, copies, others_since, renewed,
 };
 use std::alloc::Global;
 use std::process::Abort;
 
-// S is taken.
-fn taken(rt: &impl Abort, alloc: Global) -> Entry {
-    Entry::Queued {
-        content: Content::new(bytes_at_last(rt, alloc)),
-    }
+fn delivers(machine: &mut TillMachine) -> Result<(), TillRefusal> {
+    machine.deliver(1, None, 100, false)
 }
 
-// A machine that is to keep that a receipt is tried. Where memory is refused, it is made again.
-fn tries_at_last(rt: &impl Abort, alloc: Global, entries: &[Entry]) -> TillMachine {
-    let mut machine = match TillMachine::open(alloc, entries) {
-        Ok(machine) => machine,
-        Err(why) => {
-            assert!(rt; why == NoMachine::Memory);
-            match TillMachine::open(alloc, entries) {
-                Ok(machine) => machine,
-                Err(_) => panic!(rt; "no machine"),
-            }
-        }
-    };
-    if let Err(why) = machine.deliver(1, None, 100, false) {
+// It is to keep that a receipt is tried. Where memory is refused, it is told again to deliver.
+fn tries_at_last(rt: &impl Abort, machine: &mut TillMachine) {
+    if let Err(why) = delivers(machine) {
         assert!(rt; why == TillRefusal::Memory);
-        assert!(rt; machine.deliver(1, None, 100, false) == Ok(()));
+        assert!(rt; delivers(machine) == Ok(()));
     }
     machine.connected(true);
-    machine
 }
 
-// It learns of these, and is to keep that the receipt is tried; or it has failed for want of memory.
+// Whether it is to keep that the receipt is tried, with the numbers after those of others.
+fn is_to_keep_try(machine: &TillMachine) -> bool {
+    matches!(machine.asks(), Action::Append(Entry::Tried { next: 9, .. }))
+}
+
+fn is_to_hang_up(machine: &TillMachine) -> bool {
+    matches!(machine.asks(), Action::HangUp)
+}
+
+// It learns of these, and is to keep that the receipt is tried; or it has failed, out of memory.
 fn learns(rt: &impl Abort, machine: &mut TillMachine, others: &[Entry]) -> bool {
     match machine.learned(others) {
         Ok(()) => {
-            assert!(rt; matches!(machine.asks(), Action::Append(Entry::Tried { next: 9, .. })));
+            assert!(rt; is_to_keep_try(machine));
             true
         }
         Err(why) => {
             assert!(rt; why == StoreFault::Memory);
-            assert!(rt; matches!(machine.asks(), Action::HangUp));
+            assert!(rt; is_to_hang_up(machine));
             false
         }
     }
 }
 
+// A machine of these entries tries the receipt, and learns of others.
+fn tries_and_learns(rt: &impl Abort, alloc: Global, entries: &[Entry], others: &[Entry]) -> bool {
+    let mut machine = machine_at_last(rt, alloc, entries);
+    tries_at_last(rt, &mut machine);
+    learns(rt, &mut machine, others)
+}
+
 #[test]
 fn learned_refused(rt: HostRuntime) {
-    let entries = [taken(&rt, rt.alloc())];
-    let others = [taken(&rt, rt.alloc()), Entry::Raised { next: 7, heard: 0 }];
-    let mut machine = tries_at_last(&rt, rt.alloc(), &entries);
-    if !learns(&rt, &mut machine, &others) {
-        let mut again = tries_at_last(&rt, rt.alloc(), &entries);
-        assert!(&rt; learns(&rt, &mut again, &others));
+    let entries = [taken_at_last(&rt, rt.alloc())];
+    let others = [
+        taken_at_last(&rt, rt.alloc()),
+        Entry::Raised { next: 7, heard: 0 },
+    ];
+    if !tries_and_learns(&rt, rt.alloc(), &entries, &others) {
+        assert!(&rt; tries_and_learns(&rt, rt.alloc(), &entries, &others));
     }
 }
 
@@ -77,9 +80,9 @@ fn finds(rt: &impl Abort, alloc: Global, known: &[Entry], found: &[Entry]) -> bo
 
 #[test]
 fn others_since_refused(rt: HostRuntime) {
-    let known = [taken(&rt, rt.alloc())];
+    let known = [taken_at_last(&rt, rt.alloc())];
     let found = [
-        taken(&rt, rt.alloc()),
+        taken_at_last(&rt, rt.alloc()),
         Entry::Cancelled {
             number: number(&rt, 1),
         },
@@ -89,15 +92,28 @@ fn others_since_refused(rt: HostRuntime) {
     }
 }
 
+fn copies_at_last(rt: &impl Abort, alloc: Global, entries: &[Entry]) -> Vec<Entry> {
+    match copies(alloc, entries) {
+        Ok(copied) => copied,
+        Err(_) => copies(alloc, entries).expect(rt, "memory"),
+    }
+}
+
+fn ends_as(copied: &[Entry], entries: &[Entry]) -> bool {
+    match (copied, entries) {
+        ([_, copied], [_, entry]) => copied.is_same(entry),
+        _ => false,
+    }
+}
+
 #[test]
 fn copies_of_entries_refused(rt: HostRuntime) {
-    let entries = [taken(&rt, rt.alloc()), taken(&rt, rt.alloc())];
-    let copied = match copies(rt.alloc(), &entries) {
-        Ok(copied) => copied,
-        Err(_) => copies(rt.alloc(), &entries).expect(&rt, "memory"),
-    };
-    assert!(&rt; copied.len() == 2);
-    assert!(&rt; copied[1].is_same(&entries[1]));
+    let entries = [
+        taken_at_last(&rt, rt.alloc()),
+        taken_at_last(&rt, rt.alloc()),
+    ];
+    let copied = copies_at_last(&rt, rt.alloc(), &entries);
+    assert!(&rt; ends_as(&copied, &entries));
 }
 
 // A ledger with a receipt that waits goes on. None where memory is refused.
@@ -116,7 +132,10 @@ fn goes_on(rt: &impl Abort, alloc: Global, entries: &[Entry]) -> bool {
 
 #[test]
 fn renewed_refused(rt: HostRuntime) {
-    let entries = [taken(&rt, rt.alloc()), Entry::Raised { next: 7, heard: 0 }];
+    let entries = [
+        taken_at_last(&rt, rt.alloc()),
+        Entry::Raised { next: 7, heard: 0 },
+    ];
     if !goes_on(&rt, rt.alloc(), &entries) {
         assert!(&rt; goes_on(&rt, rt.alloc(), &entries));
     }

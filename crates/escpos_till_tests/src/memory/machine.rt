@@ -1,96 +1,195 @@
 //! The calls of a till's machine, where memory is refused.
 
-use crate::support::tills::{bytes_at_last, key, number, receipt_at_last};
+use crate::support::at_last::{bytes_at_last, machine_at_last, receipt_at_last};
+use crate::support::plain::{key, number};
 use escpos_till::{
-    Action, Content, Entry, NoMachine, ReceiptState, TillMachine, TillNote, TillRefusal,
+    Action, Content, Entry, ReceiptContent, ReceiptKey, ReceiptNumber, ReceiptState, TillMachine,
+    TillNote, TillRefusal,
 };
 use std::alloc::Global;
 use std::process::Abort;
 
-// A machine of these entries. Where memory is refused, it is opened again.
-fn opened_at_last(rt: &impl Abort, alloc: Global, entries: &[Entry]) -> TillMachine {
-    match TillMachine::open(alloc, entries) {
-        Ok(machine) => machine,
-        Err(why) => {
-            assert!(rt; why == NoMachine::Memory);
-            match TillMachine::open(alloc, entries) {
-                Ok(machine) => machine,
-                Err(_) => panic!(rt; "no machine"),
-            }
-        }
+const UNTRIED: ReceiptState = ReceiptState::Waiting { tried: 0 };
+
+const CANCELLED: ReceiptState = ReceiptState::Cancelled { tried: 0 };
+
+// What is done with a machine. Where memory is refused, it is done again.
+#[derive(Clone, Copy)]
+enum Step {
+    // The next mark number is raised to 3.
+    Raises,
+    // S is taken, without a key and with one.
+    Takes,
+    TakesWithKey,
+    // S comes again with its key.
+    KnowsKey,
+    // S is cancelled.
+    Cancels,
+    // S is to be delivered: something is to be put, or the link is given up.
+    Delivers,
+    // The one receipt stands so.
+    Stands(ReceiptState),
+}
+
+// A machine of these entries, with which these steps are taken. No other function here owns one.
+fn plays(rt: &impl Abort, alloc: Global, entries: &[Entry], steps: &[Step]) {
+    let mut machine = machine_at_last(rt, alloc, entries);
+    takes_steps(rt, alloc, &mut machine, steps);
+}
+
+fn takes_steps(rt: &impl Abort, alloc: Global, machine: &mut TillMachine, steps: &[Step]) {
+    for (at, step) in steps.iter().enumerate() {
+        let holds = takes_step(rt, alloc, machine, *step);
+        assert!(rt; holds, "step {at}, counted from 0");
     }
 }
 
-// S is taken.
-fn takes_at_last(rt: &impl Abort, alloc: Global, machine: &mut TillMachine) {
-    if let Err((why, receipt)) = machine.queue(receipt_at_last(rt, alloc), None) {
-        assert!(rt; why == TillRefusal::Memory);
-        if let Err((_, _receipt)) = machine.queue(receipt, None) {
-            panic!(rt; "not taken");
-        }
+fn takes_step(rt: &impl Abort, alloc: Global, machine: &mut TillMachine, step: Step) -> bool {
+    match step {
+        Step::Raises => raises(machine),
+        Step::Takes => takes_at_last(rt, alloc, machine),
+        Step::TakesWithKey => takes_with_key_at_last(rt, alloc, machine),
+        Step::KnowsKey => knows_key(rt, alloc, machine),
+        Step::Cancels => cancels(machine, number(rt, 1)),
+        Step::Delivers => delivers_at_last(machine) && goes_on(machine),
+        Step::Stands(state) => machine.states() == [state].as_slice(),
     }
+}
+
+// The entry that it asks for is kept.
+fn is_kept(machine: &mut TillMachine) {
     machine.appended(Ok(()));
+}
+
+fn is_told(machine: &mut TillMachine) {
     machine.told();
-    assert!(rt; machine.states() == [ReceiptState::Waiting { tried: 0 }].as_slice());
 }
 
-// It is to be delivered.
-fn delivers_at_last(rt: &impl Abort, machine: &mut TillMachine) {
-    if let Err(why) = machine.deliver(1, None, 100, false) {
-        assert!(rt; why == TillRefusal::Memory);
-        assert!(rt; machine.deliver(1, None, 100, false) == Ok(()));
+fn raises(machine: &mut TillMachine) -> bool {
+    let raised = machine.raise(3);
+    is_kept(machine);
+    is_told(machine);
+    raised == Ok(())
+}
+
+fn cancels(machine: &mut TillMachine, number: ReceiptNumber) -> bool {
+    let cancelled = machine.cancel(number);
+    is_kept(machine);
+    is_told(machine);
+    cancelled == Ok(())
+}
+
+// The receipt is handed back where memory is refused.
+fn queues(
+    rt: &impl Abort,
+    machine: &mut TillMachine,
+    receipt: ReceiptContent,
+    key: Option<ReceiptKey>,
+) -> Option<ReceiptContent> {
+    match machine.queue(receipt, key) {
+        Ok(()) => None,
+        Err((why, receipt)) => {
+            assert!(rt; why == TillRefusal::Memory);
+            Some(receipt)
+        }
     }
+}
+
+fn takes_at_last(rt: &impl Abort, alloc: Global, machine: &mut TillMachine) -> bool {
+    if let Some(receipt) = queues(rt, machine, receipt_at_last(rt, alloc), None) {
+        if queues(rt, machine, receipt, None).is_some() {
+            return false;
+        }
+    }
+    is_kept(machine);
+    is_told(machine);
+    true
+}
+
+fn takes_with_key_at_last(rt: &impl Abort, alloc: Global, machine: &mut TillMachine) -> bool {
+    let receipt = receipt_at_last(rt, alloc);
+    if let Some(receipt) = queues(rt, machine, receipt, Some(key(rt, b"sale-7"))) {
+        if queues(rt, machine, receipt, Some(key(rt, b"sale-7"))).is_some() {
+            return false;
+        }
+    }
+    is_kept(machine);
+    is_kept(machine);
+    is_told(machine);
+    true
+}
+
+fn is_to_tell(machine: &TillMachine, note: TillNote) -> bool {
+    match machine.asks() {
+        Action::Tell(found) => found == note,
+        _ => false,
+    }
+}
+
+// Its number is told, and that takes no memory.
+fn knows_key(rt: &impl Abort, alloc: Global, machine: &mut TillMachine) -> bool {
+    let receipt = receipt_at_last(rt, alloc);
+    queues(rt, machine, receipt, Some(key(rt, b"sale-7"))).is_none()
+        && is_to_tell(machine, TillNote::Queued(number(rt, 1)))
+}
+
+fn delivers(machine: &mut TillMachine) -> Result<(), TillRefusal> {
+    machine.deliver(1, None, 100, false)
+}
+
+fn delivers_at_last(machine: &mut TillMachine) -> bool {
+    match delivers(machine) {
+        Ok(()) => true,
+        Err(why) => why == TillRefusal::Memory && delivers(machine) == Ok(()),
+    }
+}
+
+// There is a link, and it is kept that the receipt is tried.
+fn goes_on(machine: &mut TillMachine) -> bool {
     machine.connected(true);
-    machine.appended(Ok(()));
+    is_kept(machine);
+    puts_or_hangs_up(machine)
+}
+
+fn puts_or_hangs_up(machine: &mut TillMachine) -> bool {
+    match machine.asks() {
+        Action::Put => true,
+        Action::HangUp => {
+            machine.hung_up();
+            true
+        }
+        _ => false,
+    }
 }
 
 #[test]
 fn machine_refused(rt: HostRuntime) {
-    let mut machine = opened_at_last(&rt, rt.alloc(), &[]);
-    assert!(&rt; machine.raise(3) == Ok(()));
-    machine.appended(Ok(()));
-    machine.told();
-    takes_at_last(&rt, rt.alloc(), &mut machine);
-    delivers_at_last(&rt, &mut machine);
-    match machine.asks() {
-        Action::Put => {}
-        Action::HangUp => machine.hung_up(),
-        _ => panic!(&rt; "no link"),
-    }
+    let steps = [
+        Step::Raises,
+        Step::Takes,
+        Step::Stands(UNTRIED),
+        Step::Delivers,
+    ];
+    plays(&rt, rt.alloc(), &[], &steps);
 }
 
 // A receipt that waits is cancelled.
 #[test]
 fn cancel_refused(rt: HostRuntime) {
-    let mut machine = opened_at_last(&rt, rt.alloc(), &[]);
-    takes_at_last(&rt, rt.alloc(), &mut machine);
-    assert!(&rt; machine.cancel(number(&rt, 1)) == Ok(()));
-    machine.appended(Ok(()));
-    machine.told();
-    assert!(&rt; machine.states() == [ReceiptState::Cancelled { tried: 0 }].as_slice());
+    let steps = [
+        Step::Takes,
+        Step::Stands(UNTRIED),
+        Step::Cancels,
+        Step::Stands(CANCELLED),
+    ];
+    plays(&rt, rt.alloc(), &[], &steps);
 }
 
 // A receipt is taken with a key, and asked for again.
 #[test]
 fn keyed_refused(rt: HostRuntime) {
-    let mut machine = opened_at_last(&rt, rt.alloc(), &[]);
-    let receipt = receipt_at_last(&rt, rt.alloc());
-    if let Err((why, receipt)) = machine.queue(receipt, Some(key(&rt, b"sale-7"))) {
-        assert!(&rt; why == TillRefusal::Memory);
-        if let Err((_, _receipt)) = machine.queue(receipt, Some(key(&rt, b"sale-7"))) {
-            panic!(&rt; "not taken");
-        }
-    }
-    machine.appended(Ok(()));
-    machine.appended(Ok(()));
-    machine.told();
-    let receipt = receipt_at_last(&rt, rt.alloc());
-    assert!(&rt; machine.queue(receipt, Some(key(&rt, b"sale-7"))).is_ok());
-    match machine.asks() {
-        Action::Tell(note) => assert!(&rt; note == TillNote::Queued(number(&rt, 1))),
-        _ => panic!(&rt; "nothing to tell"),
-    }
-    assert!(&rt; machine.states() == [ReceiptState::Waiting { tried: 0 }].as_slice());
+    let steps = [Step::TakesWithKey, Step::KnowsKey, Step::Stands(UNTRIED)];
+    plays(&rt, rt.alloc(), &[], &steps);
 }
 
 // The same entries, copied into a machine.
@@ -99,6 +198,5 @@ fn machine_of_entries_refused(rt: HostRuntime) {
     let content = Content::new(bytes_at_last(&rt, rt.alloc()));
     let key = key(&rt, b"sale-7");
     let entries = [Entry::Key { key }, Entry::Queued { content }];
-    let machine = opened_at_last(&rt, rt.alloc(), &entries);
-    assert!(&rt; machine.states() == [ReceiptState::Waiting { tried: 0 }].as_slice());
+    plays(&rt, rt.alloc(), &entries, &[Step::Stands(UNTRIED)]);
 }

@@ -1,16 +1,18 @@
 //! A till that is driven over a store in memory, where memory is refused, and the copies of what its ledger has.
 
-use crate::support::tills::{
-    ANSWERS_01, ANSWERS_23, DrivenTill, Line, bytes_at_last, drives, number, receipt_at_last,
-};
+use crate::support::at_last::{bytes_at_last, receipt_at_last};
+use crate::support::line::{ANSWERS_01, ANSWERS_23, Line};
+use crate::support::plain::{Told, note};
 use escpos_host::{HostError, SendFault};
 use escpos_test_receipts::S;
 use escpos_till::{
-    Content, Entry, Failure, MemoryStore, NoMachine, ReceiptState, Store, StoreFault, Surroundings,
-    TillMachine, TillNote, TillRefusal,
+    Content, Entry, Failure, MemoryStore, NoMachine, ReceiptContent, ReceiptState, Store,
+    StoreFault, Surroundings, TillMachine, TillNote, TillRefusal, drive,
 };
 use std::alloc::Global;
 use std::process::Abort;
+
+type Around = Surroundings<MemoryStore, Line>;
 
 // The machine of a store. None where memory is refused.
 fn machine_of(rt: &impl Abort, alloc: Global, store: &mut MemoryStore) -> Option<TillMachine> {
@@ -30,18 +32,20 @@ fn machine_of(rt: &impl Abort, alloc: Global, store: &mut MemoryStore) -> Option
     }
 }
 
-// The till of a store. Where memory is refused, the store is as it was, and is opened again.
-fn opened_at_last(rt: &impl Abort, alloc: Global, store: MemoryStore) -> DrivenTill {
-    let mut store = store;
-    let machine = match machine_of(rt, alloc, &mut store) {
+// Where memory is refused, the store is as it was, and is read again.
+fn machine_at_last(rt: &impl Abort, alloc: Global, store: &mut MemoryStore) -> TillMachine {
+    match machine_of(rt, alloc, store) {
         Some(machine) => machine,
-        None => machine_of(rt, alloc, &mut store).expect(rt, "a machine"),
-    };
-    let line = Line::new();
-    DrivenTill {
-        machine,
-        around: Surroundings { store, line },
+        None => machine_of(rt, alloc, store).expect(rt, "a machine"),
     }
+}
+
+// What is done with a till: S is taken; it is delivered, over a link on which the next two marks are answered; the next number is raised to 5.
+#[derive(Clone, Copy)]
+enum Call {
+    Queue,
+    Deliver,
+    Raise,
 }
 
 // What came of a call.
@@ -55,9 +59,45 @@ enum Came {
     NotKept,
 }
 
+fn queue(machine: &mut TillMachine, receipt: ReceiptContent) -> Result<(), TillRefusal> {
+    match machine.queue(receipt, None) {
+        Ok(()) => Ok(()),
+        Err((why, _receipt)) => Err(why),
+    }
+}
+
+fn deliver(machine: &mut TillMachine) -> Result<(), TillRefusal> {
+    machine.deliver(1, None, 100, false)
+}
+
+fn raise(machine: &mut TillMachine, first: u32) -> Result<(), TillRefusal> {
+    machine.raise(first)
+}
+
+fn called(
+    rt: &impl Abort,
+    alloc: Global,
+    machine: &mut TillMachine,
+    call: Call,
+) -> Result<(), TillRefusal> {
+    match call {
+        Call::Queue => queue(machine, receipt_at_last(rt, alloc)),
+        Call::Deliver => deliver(machine),
+        Call::Raise => raise(machine, 5),
+    }
+}
+
+fn wanted(call: Call) -> Told {
+    match call {
+        Call::Queue => Told::Queued(1),
+        Call::Deliver => Told::Recorded(1),
+        Call::Raise => Told::Raised,
+    }
+}
+
 // What came of a call that the machine has taken, which is to tell this.
-fn follows(rt: &impl Abort, till: &mut DrivenTill, wanted: TillNote) -> Came {
-    match drives(till, 1_000) {
+fn follows(rt: &impl Abort, found: Option<TillNote>, wanted: TillNote) -> Came {
+    match found {
         Some(TillNote::NotKept(why)) => {
             assert!(rt; why == StoreFault::Memory);
             Came::NotKept
@@ -66,95 +106,79 @@ fn follows(rt: &impl Abort, till: &mut DrivenTill, wanted: TillNote) -> Came {
             assert!(rt; why == SendFault::Refused(HostError::Memory));
             Came::Refused
         }
-        note => {
-            assert!(rt; note == Some(wanted));
+        found => {
+            assert!(rt; found == Some(wanted));
             Came::Done
         }
     }
 }
 
-fn refused(rt: &impl Abort, why: TillRefusal) -> Came {
-    assert!(rt; why == TillRefusal::Memory);
-    Came::Refused
+fn drives(machine: &mut TillMachine, around: &mut Around) -> Option<TillNote> {
+    drive(machine, around, 1_000)
 }
 
-// The till after a call that was refused memory: where its store has failed, it is opened again.
-fn goes_on(rt: &impl Abort, alloc: Global, till: DrivenTill, came: Came) -> DrivenTill {
-    if came == Came::Refused {
-        return till;
-    }
-    let DrivenTill { machine, around } = till;
-    let mut machine = machine;
-    assert!(rt; machine.raise(9) == Err(TillRefusal::Failed));
-    let Surroundings { store, .. } = around;
-    opened_at_last(rt, alloc, store)
-}
-
-fn queues(rt: &impl Abort, alloc: Global, till: &mut DrivenTill) -> Came {
-    match till.machine.queue(receipt_at_last(rt, alloc), None) {
-        Ok(()) => follows(rt, till, TillNote::Queued(number(rt, 1))),
-        Err((why, _receipt)) => refused(rt, why),
-    }
-}
-
-// The first receipt is delivered, over a link on which the next two marks are answered.
-fn delivers(rt: &impl Abort, till: &mut DrivenTill) -> Came {
-    till.around.line.answers = match till.machine.next_mark() {
+fn does(
+    rt: &impl Abort,
+    alloc: Global,
+    (machine, around): (&mut TillMachine, &mut Around),
+    what: Call,
+) -> Came {
+    around.line.answers = match machine.next_mark() {
         0 => ANSWERS_01,
         _ => ANSWERS_23,
     };
-    match till.machine.deliver(1, None, 100, false) {
-        Ok(()) => follows(rt, till, TillNote::Recorded(number(rt, 1))),
-        Err(why) => refused(rt, why),
+    match called(rt, alloc, machine, what) {
+        Ok(()) => follows(rt, drives(machine, around), note(rt, wanted(what))),
+        Err(why) => {
+            assert!(rt; why == TillRefusal::Memory);
+            Came::Refused
+        }
     }
 }
 
-fn raises(rt: &impl Abort, till: &mut DrivenTill) -> Came {
-    match till.machine.raise(5) {
-        Ok(()) => follows(rt, till, TillNote::Raised),
-        Err(why) => refused(rt, why),
-    }
+// The store has failed: its till is opened again.
+fn opens_again(rt: &impl Abort, alloc: Global, machine: &mut TillMachine, around: &mut Around) {
+    assert!(rt; raise(machine, 9) == Err(TillRefusal::Failed));
+    *machine = machine_at_last(rt, alloc, &mut around.store);
+    around.line = Line::new();
 }
 
-// A till that has taken S.
-fn queued_at_last(rt: &impl Abort, alloc: Global) -> DrivenTill {
-    let store = MemoryStore::new(alloc, Vec::new(alloc), Failure::Never);
-    let mut till = opened_at_last(rt, alloc, store);
-    let came = queues(rt, alloc, &mut till);
-    if came != Came::Done {
-        till = goes_on(rt, alloc, till, came);
-        assert!(rt; queues(rt, alloc, &mut till) == Came::Done);
+// Where memory is refused, it is done again: where the store has failed, with a till that is opened again.
+fn does_at_last(
+    rt: &impl Abort,
+    alloc: Global,
+    machine: &mut TillMachine,
+    around: &mut Around,
+    what: Call,
+) {
+    let came = does(rt, alloc, (machine, around), what);
+    if came == Came::Done {
+        return;
     }
-    till
+    if came == Came::NotKept {
+        opens_again(rt, alloc, machine, around);
+    }
+    assert!(rt; does(rt, alloc, (machine, around), what) == Came::Done);
 }
 
-// It is recorded.
-fn recorded_at_last(rt: &impl Abort, alloc: Global) -> DrivenTill {
-    let mut till = queued_at_last(rt, alloc);
-    let came = delivers(rt, &mut till);
-    if came != Came::Done {
-        till = goes_on(rt, alloc, till, came);
-        assert!(rt; delivers(rt, &mut till) == Came::Done);
-    }
-    till
-}
+const CALLS: [Call; 3] = [Call::Queue, Call::Deliver, Call::Raise];
 
-// The next number is raised to 5.
-fn raised_at_last(rt: &impl Abort, alloc: Global) -> DrivenTill {
-    let mut till = recorded_at_last(rt, alloc);
-    let came = raises(rt, &mut till);
-    if came != Came::Done {
-        till = goes_on(rt, alloc, till, came);
-        assert!(rt; raises(rt, &mut till) == Came::Done);
+fn does_all(rt: &impl Abort, alloc: Global, machine: &mut TillMachine, around: &mut Around) {
+    for what in CALLS {
+        does_at_last(rt, alloc, machine, around, what);
     }
-    till
+    assert!(rt; machine.states() == [ReceiptState::Recorded { place: 0 }].as_slice());
+    assert!(rt; machine.next_mark() == 5);
 }
 
 #[test]
 fn driven_till_refused(rt: HostRuntime) {
-    let till = raised_at_last(&rt, rt.alloc());
-    assert!(&rt; till.machine.states() == [ReceiptState::Recorded { place: 0 }].as_slice());
-    assert!(&rt; till.machine.next_mark() == 5);
+    let mut around = Surroundings {
+        store: MemoryStore::new(rt.alloc(), Vec::new(rt.alloc()), Failure::Never),
+        line: Line::new(),
+    };
+    let mut machine = machine_at_last(&rt, rt.alloc(), &mut around.store);
+    does_all(&rt, rt.alloc(), &mut machine, &mut around);
 }
 
 // The same content once more. Where memory is refused, it is copied again.
