@@ -1,45 +1,37 @@
 //! What a machine learns of others, where memory is refused.
 
 use crate::support::at_last::{machine_at_last, taken_at_last};
+use crate::support::calls::{Asked, asks, connected, deliver, is_to_keep, learned};
 use crate::support::plain::number;
 use escpos_till::{
-    Action, Entry, NotRenewed, StoreFault, TillMachine, TillRefusal, copies, others_since, renewed,
+    Entry, NotRenewed, StoreFault, TillMachine, TillRefusal, copies, others_since, renewed,
 };
 use std::alloc::Global;
 use std::process::Abort;
 
-fn delivers(machine: &mut TillMachine) -> Result<(), TillRefusal> {
-    machine.deliver(1, None, 100, false)
-}
-
 // It is to keep that a receipt is tried. Where memory is refused, it is told again to deliver.
 fn tries_at_last(rt: &impl Abort, machine: &mut TillMachine) {
-    if let Err(why) = delivers(machine) {
+    if let Err(why) = deliver(machine, 1, None) {
         assert!(rt; why == TillRefusal::Memory);
-        assert!(rt; delivers(machine) == Ok(()));
+        assert!(rt; deliver(machine, 1, None) == Ok(()));
     }
-    machine.connected(true);
+    connected(machine, true);
 }
 
-// Whether it is to keep that the receipt is tried, with the numbers after those of others.
-fn is_to_keep_try(machine: &TillMachine) -> bool {
-    matches!(machine.asks(), Action::Append(Entry::Tried { next: 9, .. }))
-}
-
-fn is_to_hang_up(machine: &TillMachine) -> bool {
-    matches!(machine.asks(), Action::HangUp)
-}
-
-// It learns of these, and is to keep that the receipt is tried; or it has failed, out of memory.
+// It learns of these, and is to keep that the receipt is tried, with the numbers after theirs; or it has failed, out of memory.
 fn learns(rt: &impl Abort, machine: &mut TillMachine, others: &[Entry]) -> bool {
-    match machine.learned(others) {
+    match learned(machine, others) {
         Ok(()) => {
-            assert!(rt; is_to_keep_try(machine));
+            let tried = Entry::Tried {
+                number: number(rt, 1),
+                next: 9,
+            };
+            assert!(rt; is_to_keep(machine, &tried));
             true
         }
         Err(why) => {
             assert!(rt; why == StoreFault::Memory);
-            assert!(rt; is_to_hang_up(machine));
+            assert!(rt; asks(machine) == Asked::HangUp);
             false
         }
     }

@@ -1,10 +1,12 @@
 //! The calls of a till's machine, where memory is refused.
 
 use crate::support::at_last::{bytes_at_last, machine_at_last, receipt_at_last};
+use crate::support::calls::{
+    Asked, appended, asks, cancel, connected, deliver, hung_up, queue, raise, told,
+};
 use crate::support::plain::{key, number};
 use escpos_till::{
-    Action, Content, Entry, ReceiptContent, ReceiptKey, ReceiptNumber, ReceiptState, TillMachine,
-    TillNote, TillRefusal,
+    Content, Entry, ReceiptContent, ReceiptKey, ReceiptState, TillMachine, TillNote, TillRefusal,
 };
 use std::alloc::Global;
 use std::process::Abort;
@@ -47,35 +49,30 @@ fn takes_steps(rt: &impl Abort, alloc: Global, machine: &mut TillMachine, steps:
 fn takes_step(rt: &impl Abort, alloc: Global, machine: &mut TillMachine, step: Step) -> bool {
     match step {
         Step::Raises => raises(machine),
-        Step::Takes => takes_at_last(rt, alloc, machine),
-        Step::TakesWithKey => takes_with_key_at_last(rt, alloc, machine),
+        Step::Takes => takes(rt, alloc, machine),
+        Step::TakesWithKey => takes_with_key(rt, alloc, machine),
         Step::KnowsKey => knows_key(rt, alloc, machine),
-        Step::Cancels => cancels(machine, number(rt, 1)),
+        Step::Cancels => cancels(rt, machine),
         Step::Delivers => delivers_at_last(machine) && goes_on(machine),
         Step::Stands(state) => machine.states() == [state].as_slice(),
     }
 }
 
-// The entry that it asks for is kept.
-fn is_kept(machine: &mut TillMachine) {
-    machine.appended(Ok(()));
-}
-
-fn is_told(machine: &mut TillMachine) {
-    machine.told();
+// It is kept, and told.
+fn is_done(machine: &mut TillMachine) {
+    appended(machine, Ok(()));
+    told(machine);
 }
 
 fn raises(machine: &mut TillMachine) -> bool {
-    let raised = machine.raise(3);
-    is_kept(machine);
-    is_told(machine);
+    let raised = raise(machine, 3);
+    is_done(machine);
     raised == Ok(())
 }
 
-fn cancels(machine: &mut TillMachine, number: ReceiptNumber) -> bool {
-    let cancelled = machine.cancel(number);
-    is_kept(machine);
-    is_told(machine);
+fn cancels(rt: &impl Abort, machine: &mut TillMachine) -> bool {
+    let cancelled = cancel(machine, number(rt, 1));
+    is_done(machine);
     cancelled == Ok(())
 }
 
@@ -86,7 +83,7 @@ fn queues(
     receipt: ReceiptContent,
     key: Option<ReceiptKey>,
 ) -> Option<ReceiptContent> {
-    match machine.queue(receipt, key) {
+    match queue(machine, receipt, key) {
         Ok(()) => None,
         Err((why, receipt)) => {
             assert!(rt; why == TillRefusal::Memory);
@@ -96,66 +93,66 @@ fn queues(
 }
 
 fn takes_at_last(rt: &impl Abort, alloc: Global, machine: &mut TillMachine) -> bool {
-    if let Some(receipt) = queues(rt, machine, receipt_at_last(rt, alloc), None) {
-        if queues(rt, machine, receipt, None).is_some() {
-            return false;
-        }
+    match queues(rt, machine, receipt_at_last(rt, alloc), None) {
+        Some(receipt) => queues(rt, machine, receipt, None).is_none(),
+        None => true,
     }
-    is_kept(machine);
-    is_told(machine);
-    true
+}
+
+fn takes(rt: &impl Abort, alloc: Global, machine: &mut TillMachine) -> bool {
+    let is_taken = takes_at_last(rt, alloc, machine);
+    is_done(machine);
+    is_taken
+}
+
+fn queues_with_key(
+    rt: &impl Abort,
+    machine: &mut TillMachine,
+    receipt: ReceiptContent,
+) -> Option<ReceiptContent> {
+    queues(rt, machine, receipt, Some(key(rt, b"sale-7")))
 }
 
 fn takes_with_key_at_last(rt: &impl Abort, alloc: Global, machine: &mut TillMachine) -> bool {
-    let receipt = receipt_at_last(rt, alloc);
-    if let Some(receipt) = queues(rt, machine, receipt, Some(key(rt, b"sale-7"))) {
-        if queues(rt, machine, receipt, Some(key(rt, b"sale-7"))).is_some() {
-            return false;
-        }
+    match queues_with_key(rt, machine, receipt_at_last(rt, alloc)) {
+        Some(receipt) => queues_with_key(rt, machine, receipt).is_none(),
+        None => true,
     }
-    is_kept(machine);
-    is_kept(machine);
-    is_told(machine);
-    true
 }
 
-fn is_to_tell(machine: &TillMachine, note: TillNote) -> bool {
-    match machine.asks() {
-        Action::Tell(found) => found == note,
-        _ => false,
-    }
+// Its key is kept before it.
+fn takes_with_key(rt: &impl Abort, alloc: Global, machine: &mut TillMachine) -> bool {
+    let is_taken = takes_with_key_at_last(rt, alloc, machine);
+    appended(machine, Ok(()));
+    is_done(machine);
+    is_taken
 }
 
 // Its number is told, and that takes no memory.
 fn knows_key(rt: &impl Abort, alloc: Global, machine: &mut TillMachine) -> bool {
-    let receipt = receipt_at_last(rt, alloc);
-    queues(rt, machine, receipt, Some(key(rt, b"sale-7"))).is_none()
-        && is_to_tell(machine, TillNote::Queued(number(rt, 1)))
-}
-
-fn delivers(machine: &mut TillMachine) -> Result<(), TillRefusal> {
-    machine.deliver(1, None, 100, false)
+    queues_with_key(rt, machine, receipt_at_last(rt, alloc)).is_none()
+        && asks(machine) == Asked::Tell(TillNote::Queued(number(rt, 1)))
 }
 
 fn delivers_at_last(machine: &mut TillMachine) -> bool {
-    match delivers(machine) {
+    match deliver(machine, 1, None) {
         Ok(()) => true,
-        Err(why) => why == TillRefusal::Memory && delivers(machine) == Ok(()),
+        Err(why) => why == TillRefusal::Memory && deliver(machine, 1, None) == Ok(()),
     }
 }
 
 // There is a link, and it is kept that the receipt is tried.
 fn goes_on(machine: &mut TillMachine) -> bool {
-    machine.connected(true);
-    is_kept(machine);
+    connected(machine, true);
+    appended(machine, Ok(()));
     puts_or_hangs_up(machine)
 }
 
 fn puts_or_hangs_up(machine: &mut TillMachine) -> bool {
-    match machine.asks() {
-        Action::Put => true,
-        Action::HangUp => {
-            machine.hung_up();
+    match asks(machine) {
+        Asked::Put => true,
+        Asked::HangUp => {
+            hung_up(machine);
             true
         }
         _ => false,

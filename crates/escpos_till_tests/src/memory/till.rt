@@ -1,18 +1,18 @@
 //! A till that is driven over a store in memory, where memory is refused, and the copies of what its ledger has.
 
 use crate::support::at_last::{bytes_at_last, receipt_at_last};
+use crate::support::calls::{deliver, queue, raise};
+use crate::support::driven::{DrivenTill, drives};
 use crate::support::line::{ANSWERS_01, ANSWERS_23, Line};
 use crate::support::plain::{Told, note};
 use escpos_host::{HostError, SendFault};
 use escpos_test_receipts::S;
 use escpos_till::{
     Content, Entry, Failure, MemoryStore, NoMachine, ReceiptContent, ReceiptState, Store,
-    StoreFault, Surroundings, TillMachine, TillNote, TillRefusal, drive,
+    StoreFault, Surroundings, TillMachine, TillNote, TillRefusal,
 };
 use std::alloc::Global;
 use std::process::Abort;
-
-type Around = Surroundings<MemoryStore, Line>;
 
 // The machine of a store. None where memory is refused.
 fn machine_of(rt: &impl Abort, alloc: Global, store: &mut MemoryStore) -> Option<TillMachine> {
@@ -59,19 +59,11 @@ enum Came {
     NotKept,
 }
 
-fn queue(machine: &mut TillMachine, receipt: ReceiptContent) -> Result<(), TillRefusal> {
-    match machine.queue(receipt, None) {
+fn queues(machine: &mut TillMachine, receipt: ReceiptContent) -> Result<(), TillRefusal> {
+    match queue(machine, receipt, None) {
         Ok(()) => Ok(()),
         Err((why, _receipt)) => Err(why),
     }
-}
-
-fn deliver(machine: &mut TillMachine) -> Result<(), TillRefusal> {
-    machine.deliver(1, None, 100, false)
-}
-
-fn raise(machine: &mut TillMachine, first: u32) -> Result<(), TillRefusal> {
-    machine.raise(first)
 }
 
 fn called(
@@ -81,8 +73,8 @@ fn called(
     call: Call,
 ) -> Result<(), TillRefusal> {
     match call {
-        Call::Queue => queue(machine, receipt_at_last(rt, alloc)),
-        Call::Deliver => deliver(machine),
+        Call::Queue => queues(machine, receipt_at_last(rt, alloc)),
+        Call::Deliver => deliver(machine, 1, None),
         Call::Raise => raise(machine, 5),
     }
 }
@@ -113,22 +105,13 @@ fn follows(rt: &impl Abort, found: Option<TillNote>, wanted: TillNote) -> Came {
     }
 }
 
-fn drives(machine: &mut TillMachine, around: &mut Around) -> Option<TillNote> {
-    drive(machine, around, 1_000)
-}
-
-fn does(
-    rt: &impl Abort,
-    alloc: Global,
-    (machine, around): (&mut TillMachine, &mut Around),
-    what: Call,
-) -> Came {
-    around.line.answers = match machine.next_mark() {
+fn does(rt: &impl Abort, alloc: Global, till: &mut DrivenTill, what: Call) -> Came {
+    till.around.line.answers = match till.machine.next_mark() {
         0 => ANSWERS_01,
         _ => ANSWERS_23,
     };
-    match called(rt, alloc, machine, what) {
-        Ok(()) => follows(rt, drives(machine, around), note(rt, wanted(what))),
+    match called(rt, alloc, &mut till.machine, what) {
+        Ok(()) => follows(rt, drives(till, 1_000), note(rt, wanted(what))),
         Err(why) => {
             assert!(rt; why == TillRefusal::Memory);
             Came::Refused
@@ -137,48 +120,44 @@ fn does(
 }
 
 // The store has failed: its till is opened again.
-fn opens_again(rt: &impl Abort, alloc: Global, machine: &mut TillMachine, around: &mut Around) {
-    assert!(rt; raise(machine, 9) == Err(TillRefusal::Failed));
-    *machine = machine_at_last(rt, alloc, &mut around.store);
-    around.line = Line::new();
+fn opens_again(rt: &impl Abort, alloc: Global, till: &mut DrivenTill) {
+    assert!(rt; raise(&mut till.machine, 9) == Err(TillRefusal::Failed));
+    till.machine = machine_at_last(rt, alloc, &mut till.around.store);
+    till.around.line = Line::new();
 }
 
 // Where memory is refused, it is done again: where the store has failed, with a till that is opened again.
-fn does_at_last(
-    rt: &impl Abort,
-    alloc: Global,
-    machine: &mut TillMachine,
-    around: &mut Around,
-    what: Call,
-) {
-    let came = does(rt, alloc, (machine, around), what);
+fn does_at_last(rt: &impl Abort, alloc: Global, till: &mut DrivenTill, what: Call) {
+    let came = does(rt, alloc, till, what);
     if came == Came::Done {
         return;
     }
     if came == Came::NotKept {
-        opens_again(rt, alloc, machine, around);
+        opens_again(rt, alloc, till);
     }
-    assert!(rt; does(rt, alloc, (machine, around), what) == Came::Done);
+    assert!(rt; does(rt, alloc, till, what) == Came::Done);
 }
 
 const CALLS: [Call; 3] = [Call::Queue, Call::Deliver, Call::Raise];
 
-fn does_all(rt: &impl Abort, alloc: Global, machine: &mut TillMachine, around: &mut Around) {
+fn does_all(rt: &impl Abort, alloc: Global, till: &mut DrivenTill) {
     for what in CALLS {
-        does_at_last(rt, alloc, machine, around, what);
+        does_at_last(rt, alloc, till, what);
     }
-    assert!(rt; machine.states() == [ReceiptState::Recorded { place: 0 }].as_slice());
-    assert!(rt; machine.next_mark() == 5);
+    assert!(rt; till.machine.states() == [ReceiptState::Recorded { place: 0 }].as_slice());
+    assert!(rt; till.machine.next_mark() == 5);
 }
 
 #[test]
 fn driven_till_refused(rt: HostRuntime) {
-    let mut around = Surroundings {
-        store: MemoryStore::new(rt.alloc(), Vec::new(rt.alloc()), Failure::Never),
-        line: Line::new(),
+    let mut store = MemoryStore::new(rt.alloc(), Vec::new(rt.alloc()), Failure::Never);
+    let machine = machine_at_last(&rt, rt.alloc(), &mut store);
+    let line = Line::new();
+    let mut till = DrivenTill {
+        machine,
+        around: Surroundings { store, line },
     };
-    let mut machine = machine_at_last(&rt, rt.alloc(), &mut around.store);
-    does_all(&rt, rt.alloc(), &mut machine, &mut around);
+    does_all(&rt, rt.alloc(), &mut till);
 }
 
 // The same content once more. Where memory is refused, it is copied again.

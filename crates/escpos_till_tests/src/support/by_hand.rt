@@ -2,11 +2,13 @@
 //!
 //! A test is a row of steps. Only `plays` owns a machine, and lends it to one function for each step.
 
-use crate::support::plain::{
-    Call, Plain, Refused, Text, Told, entries_of, entry, machine_of, note, refuses, takes,
+use crate::support::calls::{
+    Asked, appended, asks, came, connected, hung_up, is_to_keep, learned, link_ended, machine_of,
+    refuses, take_out, takes, told,
 };
+use crate::support::plain::{Call, Plain, Refused, Text, Told, entries_of, entry, note};
 use escpos_host::SendFault;
-use escpos_till::{Action, Entry, Pause, ReceiptState, StoreFault, TillMachine};
+use escpos_till::{Pause, ReceiptState, StoreFault, TillMachine};
 use std::alloc::Global;
 use std::process::Abort;
 
@@ -101,7 +103,7 @@ fn takes_step(rt: &impl Abort, alloc: Global, machine: &mut TillMachine, step: S
         Step::FailsToLearn(others) => {
             learns(rt, alloc, machine, others) == Err(StoreFault::Failed)
         }
-        Step::IsToKeep(plain) => is_to_keep(rt, alloc, machine, plain),
+        Step::IsToKeep(plain) => is_to_keep_plain(rt, alloc, machine, plain),
         Step::Records(heard) => records(rt, alloc, machine, heard),
         Step::RaisesNoHigherThan(last) => raises_no_higher(rt, alloc, machine, last),
         _ => hears_step(rt, machine, step),
@@ -117,10 +119,7 @@ fn hears_step(rt: &impl Abort, machine: &mut TillMachine, step: Step) -> bool {
         Step::Puts(bytes) => puts(machine, bytes),
         Step::Hears(most, bytes) => hears(machine, most, bytes),
         Step::HearsStatuses(most) => hears_statuses(machine, most),
-        Step::Ends(why) => {
-            ends(machine, why);
-            true
-        }
+        Step::Ends(why) => ends(machine, why),
         Step::HangsUp => hangs_up(machine),
         Step::Tells(told) => tells(rt, machine, told),
         Step::Waits(why) => hangs_up(machine) && tells(rt, machine, Told::Waiting(1, why)),
@@ -143,78 +142,34 @@ fn is_so(machine: &TillMachine, step: Step) -> bool {
     }
 }
 
-// What a machine asks for, without the entry that is to be kept, and what is to be told.
-#[derive(Clone, Copy, PartialEq)]
-enum Asked {
-    Nothing,
-    Append,
-    Connect,
-    Put,
-    Wait(u32),
-    HangUp,
-    Tell,
-}
-
-fn asks(machine: &TillMachine) -> Asked {
-    match machine.asks() {
-        Action::Nothing => Asked::Nothing,
-        Action::Append(_) => Asked::Append,
-        Action::Connect => Asked::Connect,
-        Action::Put => Asked::Put,
-        Action::Wait(most) => Asked::Wait(most),
-        Action::HangUp => Asked::HangUp,
-        Action::Tell(_) => Asked::Tell,
-    }
-}
-
-fn is_to_keep(rt: &impl Abort, alloc: Global, machine: &TillMachine, wanted: Plain) -> bool {
-    is_to_keep_entry(machine, &entry(rt, alloc, wanted))
-}
-
-fn is_to_keep_entry(machine: &TillMachine, wanted: &Entry) -> bool {
-    match machine.asks() {
-        Action::Append(found) => found.is_same(wanted),
-        _ => false,
-    }
-}
-
-fn is_to_tell(rt: &impl Abort, machine: &TillMachine, told: Told) -> bool {
-    match machine.asks() {
-        Action::Tell(found) => found == note(rt, told),
-        _ => false,
-    }
+fn is_to_keep_plain(rt: &impl Abort, alloc: Global, machine: &TillMachine, wanted: Plain) -> bool {
+    is_to_keep(machine, &entry(rt, alloc, wanted))
 }
 
 fn connects(machine: &mut TillMachine, has_link: bool) -> bool {
-    if asks(machine) != Asked::Connect {
-        return false;
-    }
-    machine.connected(has_link);
-    true
+    let is_asked = asks(machine) == Asked::Connect;
+    connected(machine, has_link);
+    is_asked
 }
 
 fn keeps(machine: &mut TillMachine, kept: Result<(), StoreFault>) -> bool {
-    if asks(machine) != Asked::Append {
-        return false;
-    }
-    machine.appended(kept);
-    true
+    let is_asked = asks(machine) == Asked::Append;
+    appended(machine, kept);
+    is_asked
 }
 
 fn puts(machine: &mut TillMachine, wanted: &[u8]) -> bool {
+    let is_asked = asks(machine) == Asked::Put;
     let mut room = [0; 64];
-    if asks(machine) != Asked::Put {
-        return false;
-    }
-    let count = machine.take_out(&mut room);
+    let count = take_out(machine, &mut room);
     match &room[..count.min(64)] {
-        [0x1D, b'a', 0x0E, others @ ..] => others == wanted,
+        [0x1D, b'a', 0x0E, others @ ..] => is_asked && others == wanted,
         _ => false,
     }
 }
 
 fn hears(machine: &mut TillMachine, most: u32, bytes: &[u8]) -> bool {
-    asks(machine) == Asked::Wait(most) && machine.came(bytes) == bytes.len()
+    asks(machine) == Asked::Wait(most) && came(machine, bytes) == bytes.len()
 }
 
 fn hears_statuses(machine: &mut TillMachine, most: u32) -> bool {
@@ -226,28 +181,25 @@ fn hears_statuses(machine: &mut TillMachine, most: u32) -> bool {
     true
 }
 
-fn ends(machine: &mut TillMachine, why: SendFault) {
-    machine.link_ended(why);
+fn ends(machine: &mut TillMachine, why: SendFault) -> bool {
+    link_ended(machine, why);
+    true
 }
 
 fn hangs_up(machine: &mut TillMachine) -> bool {
-    if asks(machine) != Asked::HangUp {
-        return false;
-    }
-    machine.hung_up();
-    true
+    let is_asked = asks(machine) == Asked::HangUp;
+    hung_up(machine);
+    is_asked
 }
 
-fn is_told(rt: &impl Abort, machine: &mut TillMachine, told: Told) -> bool {
-    if !is_to_tell(rt, machine, told) {
-        return false;
-    }
-    machine.told();
-    true
+fn is_told(rt: &impl Abort, machine: &mut TillMachine, wanted: Told) -> bool {
+    let is_asked = asks(machine) == Asked::Tell(note(rt, wanted));
+    told(machine);
+    is_asked
 }
 
-fn tells(rt: &impl Abort, machine: &mut TillMachine, told: Told) -> bool {
-    is_told(rt, machine, told) && asks(machine) == Asked::Nothing
+fn tells(rt: &impl Abort, machine: &mut TillMachine, wanted: Told) -> bool {
+    is_told(rt, machine, wanted) && asks(machine) == Asked::Nothing
 }
 
 fn pauses(rt: &impl Abort, machine: &mut TillMachine, why: Pause) -> bool {
@@ -257,7 +209,7 @@ fn pauses(rt: &impl Abort, machine: &mut TillMachine, why: Pause) -> bool {
 fn takes_s(rt: &impl Abort, alloc: Global, machine: &mut TillMachine, at: usize) -> bool {
     takes(rt, alloc, machine, Call::Queue(Text::S))
         && refuses(rt, alloc, machine, (Call::Raise(9), Refused::Busy))
-        && is_to_keep(rt, alloc, machine, Plain::Taken(Text::S))
+        && is_to_keep_plain(rt, alloc, machine, Plain::Taken(Text::S))
         && keeps(machine, Ok(()))
         && tells(rt, machine, Told::Queued(at))
 }
@@ -274,12 +226,12 @@ fn takes_all(rt: &impl Abort, alloc: Global, machine: &mut TillMachine, count: u
 fn tries(rt: &impl Abort, alloc: Global, machine: &mut TillMachine, call: Call, next: u32) -> bool {
     takes(rt, alloc, machine, call)
         && connects(machine, true)
-        && is_to_keep(rt, alloc, machine, Plain::Tried(1, next))
+        && is_to_keep_plain(rt, alloc, machine, Plain::Tried(1, next))
         && keeps(machine, Ok(()))
 }
 
 fn records(rt: &impl Abort, alloc: Global, machine: &mut TillMachine, heard: u32) -> bool {
-    is_to_keep(rt, alloc, machine, Plain::Recorded(1, heard))
+    is_to_keep_plain(rt, alloc, machine, Plain::Recorded(1, heard))
         && keeps(machine, Ok(()))
         && hangs_up(machine)
         && tells(rt, machine, Told::Recorded(1))
@@ -304,6 +256,5 @@ fn learns(
     machine: &mut TillMachine,
     others: &[Plain],
 ) -> Result<(), StoreFault> {
-    let others = entries_of(rt, alloc, others);
-    machine.learned(&others)
+    learned(machine, &entries_of(rt, alloc, others))
 }

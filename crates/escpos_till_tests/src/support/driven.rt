@@ -2,8 +2,9 @@
 //!
 //! A test is a row of steps. Only `plays` owns a till, and lends it to one function for each step.
 
+use crate::support::calls::{machine_of, refuses, takes};
 use crate::support::line::{Answers, Line};
-use crate::support::plain::{Call, Refused, Text, Told, machine_of, note, refuses, takes};
+use crate::support::plain::{Call, Refused, Text, Told, note};
 use escpos_host::SendFault;
 use escpos_till::{
     Entry, Failure, MemoryStore, Pause, ReceiptState, Store, Surroundings, TillMachine, TillNote,
@@ -64,9 +65,9 @@ pub enum Step {
 
 // A machine, its store and its line.
 #[derive(Drop)]
-struct DrivenTill {
-    machine: TillMachine,
-    around: Surroundings<MemoryStore, Line>,
+pub struct DrivenTill {
+    pub machine: TillMachine,
+    pub around: Surroundings<MemoryStore, Line>,
 }
 
 // A till with no entries, whose store fails so.
@@ -80,7 +81,7 @@ fn new_till(rt: &impl Abort, alloc: Global, failure: Failure) -> DrivenTill {
     }
 }
 
-// A new till, with which these steps are taken. No other function owns one.
+// A new till, with which these steps are taken. No other function here owns one.
 pub fn plays(rt: &impl Abort, alloc: Global, failure: Failure, steps: &[Step]) {
     let mut till = new_till(rt, alloc, failure);
     takes_steps(rt, alloc, &mut till, steps);
@@ -146,7 +147,7 @@ fn does(rt: &impl Abort, alloc: Global, till: &mut DrivenTill, call: Call) -> bo
 
 // At most so many things are done that the machine asks for. This says nothing of what comes of it, so that its callers carry none of
 // the contract.
-fn drives(till: &mut DrivenTill, most: u32) -> Option<TillNote> {
+pub fn drives(till: &mut DrivenTill, most: u32) -> Option<TillNote> {
     drive(&mut till.machine, &mut till.around, most)
 }
 

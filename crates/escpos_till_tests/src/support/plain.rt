@@ -5,8 +5,8 @@ use escpos_host::SendFault;
 use escpos_receipt::ReceiptOptions;
 use escpos_test_receipts::{A, S};
 use escpos_till::{
-    Content, CopyText, Entry, Pause, ReceiptContent, ReceiptKey, ReceiptNumber, StoreFault,
-    TillMachine, TillNote, TillRefusal,
+    Content, Entry, Pause, ReceiptContent, ReceiptKey, ReceiptNumber, StoreFault, TillNote,
+    TillRefusal,
 };
 use std::alloc::Global;
 use std::process::Abort;
@@ -160,7 +160,7 @@ pub fn note(rt: &impl Abort, told: Told) -> TillNote {
     }
 }
 
-fn refusal(rt: &impl Abort, refused: Refused) -> TillRefusal {
+pub fn refusal(rt: &impl Abort, refused: Refused) -> TillRefusal {
     match refused {
         Refused::Busy => TillRefusal::Busy,
         Refused::Failed => TillRefusal::Failed,
@@ -178,87 +178,9 @@ fn refusal(rt: &impl Abort, refused: Refused) -> TillRefusal {
 }
 
 // The receipt of this text, once it was read.
-fn receipt(rt: &impl Abort, alloc: Global, text: Text) -> ReceiptContent {
+pub fn receipt(rt: &impl Abort, alloc: Global, text: Text) -> ReceiptContent {
     match ReceiptContent::read(alloc, &ReceiptOptions::usual(), bytes(rt, alloc, text)) {
         Ok(receipt) => receipt,
         Err(_) => panic!(rt; "no receipt"),
-    }
-}
-
-// The receipt of a text is given to the machine.
-fn queued(
-    machine: &mut TillMachine,
-    receipt: ReceiptContent,
-    key: Option<ReceiptKey>,
-) -> Result<(), TillRefusal> {
-    match machine.queue(receipt, key) {
-        Ok(()) => Ok(()),
-        Err((why, _receipt)) => Err(why),
-    }
-}
-
-fn delivered(
-    machine: &mut TillMachine,
-    openings: u32,
-    copy: Option<&CopyText<'_>>,
-) -> Result<(), TillRefusal> {
-    machine.deliver(openings, copy, 100, false)
-}
-
-fn delivered_as_copy(
-    rt: &impl Abort,
-    machine: &mut TillMachine,
-    openings: u32,
-    text: &[u8],
-) -> Result<(), TillRefusal> {
-    let text = CopyText::new(text).expect(rt, "a text");
-    delivered(machine, openings, Some(&text))
-}
-
-fn raised(machine: &mut TillMachine, first: u32) -> Result<(), TillRefusal> {
-    machine.raise(first)
-}
-
-fn cancelled(machine: &mut TillMachine, number: ReceiptNumber) -> Result<(), TillRefusal> {
-    machine.cancel(number)
-}
-
-// What comes of a call. This says nothing of it, and neither do the functions above, so that their callers carry none of the contracts.
-fn called(
-    rt: &impl Abort,
-    alloc: Global,
-    machine: &mut TillMachine,
-    call: Call,
-) -> Result<(), TillRefusal> {
-    match call {
-        Call::Queue(text) => queued(machine, receipt(rt, alloc, text), None),
-        Call::QueueWith(text, with) => {
-            queued(machine, receipt(rt, alloc, text), Some(key(rt, with)))
-        }
-        Call::Raise(first) => raised(machine, first),
-        Call::Cancel(at) => cancelled(machine, number(rt, at)),
-        Call::Deliver(openings) => delivered(machine, openings, None),
-        Call::DeliverCopy(openings, text) => delivered_as_copy(rt, machine, openings, text),
-    }
-}
-
-pub fn takes(rt: &impl Abort, alloc: Global, machine: &mut TillMachine, call: Call) -> bool {
-    called(rt, alloc, machine, call) == Ok(())
-}
-
-pub fn refuses(
-    rt: &impl Abort,
-    alloc: Global,
-    machine: &mut TillMachine,
-    (call, why): (Call, Refused),
-) -> bool {
-    called(rt, alloc, machine, call) == Err(refusal(rt, why))
-}
-
-// A machine of these entries.
-pub fn machine_of(rt: &impl Abort, alloc: Global, entries: &[Entry]) -> TillMachine {
-    match TillMachine::open(alloc, entries) {
-        Ok(machine) => machine,
-        Err(_) => panic!(rt; "no machine"),
     }
 }
