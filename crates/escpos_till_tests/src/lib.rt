@@ -3,8 +3,8 @@
 //!
 //! They stand apart from what they test because tests are proved together with the functions of their crate: here no function
 //! is proved a second time for them. A test that looks into a value stands in the crate of that value.
-//! Most tests are rows of steps, constant data: one function plays them, owns the machine or the till, and lends it to one function for each
-//! step. For each way out of a function drops what it owns, and each test that owned a machine would be proved with all that.
+//! Most tests are rows of steps, which are constants. One function plays them: it owns the machine or the till, and lends it to a function
+//! for each step. A test that owned one would be proved with its drop, and one whose steps stood in its body with each of them.
 //!
 //! `till` is of the machine and its driver, over a store in memory, `learning` of what it makes of entries that others add; `memory` lets
 //! each allocation of a call fail in turn. What they share is in `support`.

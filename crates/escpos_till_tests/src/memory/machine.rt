@@ -159,35 +159,40 @@ fn puts_or_hangs_up(machine: &mut TillMachine) -> bool {
     }
 }
 
+const MACHINE_REFUSED: &[Step] = &[
+    Step::Raises,
+    Step::Takes,
+    Step::Stands(UNTRIED),
+    Step::Delivers,
+];
+
 #[test]
 fn machine_refused(rt: HostRuntime) {
-    let steps = [
-        Step::Raises,
-        Step::Takes,
-        Step::Stands(UNTRIED),
-        Step::Delivers,
-    ];
-    plays(&rt, rt.alloc(), &[], &steps);
+    plays(&rt, rt.alloc(), &[], MACHINE_REFUSED);
 }
+
+const CANCEL_REFUSED: &[Step] = &[
+    Step::Takes,
+    Step::Stands(UNTRIED),
+    Step::Cancels,
+    Step::Stands(CANCELLED),
+];
 
 // A receipt that waits is cancelled.
 #[test]
 fn cancel_refused(rt: HostRuntime) {
-    let steps = [
-        Step::Takes,
-        Step::Stands(UNTRIED),
-        Step::Cancels,
-        Step::Stands(CANCELLED),
-    ];
-    plays(&rt, rt.alloc(), &[], &steps);
+    plays(&rt, rt.alloc(), &[], CANCEL_REFUSED);
 }
+
+const KEYED_REFUSED: &[Step] = &[Step::TakesWithKey, Step::KnowsKey, Step::Stands(UNTRIED)];
 
 // A receipt is taken with a key, and asked for again.
 #[test]
 fn keyed_refused(rt: HostRuntime) {
-    let steps = [Step::TakesWithKey, Step::KnowsKey, Step::Stands(UNTRIED)];
-    plays(&rt, rt.alloc(), &[], &steps);
+    plays(&rt, rt.alloc(), &[], KEYED_REFUSED);
 }
+
+const WAITS: &[Step] = &[Step::Stands(UNTRIED)];
 
 // The same entries, copied into a machine.
 #[test]
@@ -195,5 +200,5 @@ fn machine_of_entries_refused(rt: HostRuntime) {
     let content = Content::new(bytes_at_last(&rt, rt.alloc()));
     let key = key(&rt, b"sale-7");
     let entries = [Entry::Key { key }, Entry::Queued { content }];
-    plays(&rt, rt.alloc(), &entries, &[Step::Stands(UNTRIED)]);
+    plays(&rt, rt.alloc(), &entries, WAITS);
 }

@@ -103,26 +103,39 @@ fn a_void_key_stays_void(rt: HostRuntime) {
     plays(&rt, rt.alloc(), failure, A_VOID_KEY_STAYS_VOID);
 }
 
-// A store that failed, and has these entries. The receipt comes again with its key.
-fn failed_with(entries: &'static str) -> [Step; 7] {
-    [
-        Step::Does(Call::QueueWith(Text::S, b"a")),
-        Step::Tells(Told::NotKept),
-        Step::RefusesAll,
-        Step::OpensAgain,
-        Step::Has(entries),
-        Step::TakesWith(Text::S, b"a", 1),
-        Step::Has("kq"),
-    ]
-}
+const FAILED_WITH_BOTH_OR_NONE: [(Failure, &[Step]); 2] = [
+    (
+        Failure::AfterKeeping { calls: 1 },
+        &[
+            Step::Does(Call::QueueWith(Text::S, b"a")),
+            Step::Tells(Told::NotKept),
+            Step::RefusesAll,
+            Step::OpensAgain,
+            Step::Has("kq"),
+            Step::TakesWith(Text::S, b"a", 1),
+            Step::Has("kq"),
+        ],
+    ),
+    (
+        Failure::BeforeKeeping { calls: 0 },
+        &[
+            Step::Does(Call::QueueWith(Text::S, b"a")),
+            Step::Tells(Told::NotKept),
+            Step::RefusesAll,
+            Step::OpensAgain,
+            Step::Has(""),
+            Step::TakesWith(Text::S, b"a", 1),
+            Step::Has("kq"),
+        ],
+    ),
+];
 
 // The store failed with the receipt, or before the key.
 #[test]
 fn failed_with_both_or_none(rt: HostRuntime) {
-    let with_both = Failure::AfterKeeping { calls: 1 };
-    plays(&rt, rt.alloc(), with_both, &failed_with("kq"));
-    let with_none = Failure::BeforeKeeping { calls: 0 };
-    plays(&rt, rt.alloc(), with_none, &failed_with(""));
+    for (failure, steps) in &FAILED_WITH_BOTH_OR_NONE {
+        plays(&rt, rt.alloc(), *failure, steps);
+    }
 }
 
 #[test]

@@ -4,6 +4,8 @@ use crate::support::by_hand::{Step, plays};
 use crate::support::plain::{Call, Plain, Refused, Text, Told};
 use escpos_host::SendFault;
 use escpos_till::{Pause, ReceiptState};
+use std::alloc::Global;
+use std::process::Abort;
 
 const UNTRIED: ReceiptState = ReceiptState::Waiting { tried: 0 };
 
@@ -294,33 +296,36 @@ const NOTHING_IS_HEARD: &[Plain] = &[
     Plain::Raised(1_679_615, 0),
 ];
 
-const USED_UP: Step = Step::Refuses(Call::Deliver(1), Refused::MarksUsedUp(1));
+const USED_UP: &[Step] = &[Step::Refuses(Call::Deliver(1), Refused::MarksUsedUp(1))];
 
-const TOO_HIGH: Step = Step::Refuses(Call::Raise(1_679_616), Refused::MarkTooHigh(1_679_614));
+const TOO_HIGH: &[Step] = &[Step::Refuses(Call::Raise(1_679_616), Refused::MarkTooHigh(1_679_614))];
 
 // Nothing says that a mark is answered: its id isn't put again, and the receipt waits.
 #[test]
 fn machine_puts_no_id_that_is_out(rt: HostRuntime) {
-    plays(&rt, rt.alloc(), NOTHING_IS_HEARD, &[USED_UP]);
-    plays(&rt, rt.alloc(), NOTHING_IS_HEARD, &[TOO_HIGH]);
+    plays(&rt, rt.alloc(), NOTHING_IS_HEARD, USED_UP);
+    plays(&rt, rt.alloc(), NOTHING_IS_HEARD, TOO_HIGH);
 }
+
+// The ledger's next mark number is this one, and the machine's steps with it.
+fn takes_number(rt: &impl Abort, alloc: Global, first: u32) {
+    let steps = [
+        Step::Does(Call::Raise(first)),
+        Step::Keeps,
+        Step::Tells(Told::Raised),
+        Step::Takes(1),
+        Step::Tries(first.saturating_add(2)),
+    ];
+    plays(rt, alloc, &[Plain::Raised(first, 0)], &steps);
+}
+
+const NUMBERS: &[u32] = &[1, 255, 256, 1_000, 1_001, 65_535, 65_536, 1_000_000];
 
 // Numbers below the last are all taken: each number is raised to, and a receipt is tried with it.
 #[test]
 fn machine_takes_each_number(rt: HostRuntime) {
-    for first in [1u32, 255, 256, 1_000, 1_001, 65_535, 65_536, 1_000_000] {
-        plays(
-            &rt,
-            rt.alloc(),
-            &[Plain::Raised(first, 0)],
-            &[
-                Step::Does(Call::Raise(first)),
-                Step::Keeps,
-                Step::Tells(Told::Raised),
-                Step::Takes(1),
-                Step::Tries(first.saturating_add(2)),
-            ],
-        );
+    for first in NUMBERS {
+        takes_number(&rt, rt.alloc(), *first);
     }
 }
 

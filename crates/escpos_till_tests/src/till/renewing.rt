@@ -83,11 +83,13 @@ fn numbers_go_on(rt: HostRuntime) {
     plays(&rt, rt.alloc(), NEWER, NUMBERS_GO_ON);
 }
 
+const OVER: &[Plain] = &[Plain::Taken(Text::S), Plain::Cancelled(1)];
+
+const NEW: &[Plain] = &[Plain::Renewed(1, 0), Plain::Raised(0, 0)];
+
 #[test]
 fn nothing_waits(rt: HostRuntime) {
-    let over = [Plain::Taken(Text::S), Plain::Cancelled(1)];
-    let new = [Plain::Renewed(1, 0), Plain::Raised(0, 0)];
-    assert!(&rt; goes_on_as(&rt, rt.alloc(), &over, &new));
+    assert!(&rt; goes_on_as(&rt, rt.alloc(), OVER, NEW));
 }
 
 fn is_damaged(rt: &impl Abort, alloc: Global, entries: &[Plain]) -> bool {
@@ -97,8 +99,9 @@ fn is_damaged(rt: &impl Abort, alloc: Global, entries: &[Plain]) -> bool {
     }
 }
 
+const NO_LEDGER: &[Plain] = &[Plain::Raised(3, 0), Plain::Renewed(1, 0)];
+
 #[test]
 fn no_ledger(rt: HostRuntime) {
-    let entries = [Plain::Raised(3, 0), Plain::Renewed(1, 0)];
-    assert!(&rt; is_damaged(&rt, rt.alloc(), &entries));
+    assert!(&rt; is_damaged(&rt, rt.alloc(), NO_LEDGER));
 }

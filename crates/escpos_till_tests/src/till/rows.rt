@@ -86,30 +86,38 @@ fn cancelled(rt: HostRuntime) {
     plays(&rt, rt.alloc(), Failure::Never, CANCELLED);
 }
 
-// The store fails as a receipt is to be cancelled, and is left with one that stands so.
-fn fails_to_cancel(rt: &impl Abort, alloc: Global, failure: Failure, left: Step) {
-    plays(
-        rt,
-        alloc,
-        failure,
+// The store fails as a receipt is to be cancelled, before that is kept and after.
+const FAILS_TO_CANCEL: [(Failure, &[Step]); 2] = [
+    (
+        Failure::BeforeKeeping { calls: 1 },
         &[
             Step::Takes(Text::S, 1),
             Step::Does(Call::Cancel(1)),
             Step::Tells(Told::NotKept),
             Step::RefusesAll,
             Step::OpensAgain,
-            left,
+            Step::Stand(&[UNTRIED], 0),
         ],
-    );
-}
+    ),
+    (
+        Failure::AfterKeeping { calls: 1 },
+        &[
+            Step::Takes(Text::S, 1),
+            Step::Does(Call::Cancel(1)),
+            Step::Tells(Told::NotKept),
+            Step::RefusesAll,
+            Step::OpensAgain,
+            Step::Stand(&[GONE], 0),
+        ],
+    ),
+];
 
 // Where the store fails as a receipt is to be cancelled, the machine fails, and the receipt is cancelled or waits.
 #[test]
 fn cancelled_or_not(rt: HostRuntime) {
-    let before = Failure::BeforeKeeping { calls: 1 };
-    fails_to_cancel(&rt, rt.alloc(), before, Step::Stand(&[UNTRIED], 0));
-    let after = Failure::AfterKeeping { calls: 1 };
-    fails_to_cancel(&rt, rt.alloc(), after, Step::Stand(&[GONE], 0));
+    for (failure, steps) in &FAILS_TO_CANCEL {
+        plays(&rt, rt.alloc(), *failure, steps);
+    }
 }
 
 // The next number is raised, and never falls; no number is taken that isn't there, and then nothing is put and nothing kept.
@@ -150,39 +158,38 @@ fn not_a_receipt(rt: HostRuntime) {
     }
 }
 
-// The store fails at the second receipt: so does the machine. It still says what it knows. Opened again it has these receipts.
-fn fails_at_the_second(rt: &impl Abort, alloc: Global, failure: Failure, left: Step) {
-    plays(
-        rt,
-        alloc,
-        failure,
-        &[
-            Step::Takes(Text::S, 1),
-            Step::Does(Call::Queue(Text::A)),
-            Step::Tells(Told::NotKept),
-            Step::RefusesAll,
-            Step::Stand(&[UNTRIED], 0),
-            Step::OpensAgain,
-            left,
-        ],
-    );
-}
+// The store fails at the second receipt: so does the machine. It still says what it knows.
+const STORE_FAILS: &[Step] = &[
+    Step::Takes(Text::S, 1),
+    Step::Does(Call::Queue(Text::A)),
+    Step::Tells(Told::NotKept),
+    Step::RefusesAll,
+    Step::Stand(&[UNTRIED], 0),
+    Step::OpensAgain,
+    Step::Stand(&[UNTRIED], 0),
+];
 
 #[test]
 fn store_fails(rt: HostRuntime) {
     let failure = Failure::BeforeKeeping { calls: 1 };
-    fails_at_the_second(&rt, rt.alloc(), failure, Step::Stand(&[UNTRIED], 0));
+    plays(&rt, rt.alloc(), failure, STORE_FAILS);
 }
+
+// The same, when all is kept.
+const STORE_FAILS_LATER: &[Step] = &[
+    Step::Takes(Text::S, 1),
+    Step::Does(Call::Queue(Text::A)),
+    Step::Tells(Told::NotKept),
+    Step::RefusesAll,
+    Step::Stand(&[UNTRIED], 0),
+    Step::OpensAgain,
+    Step::Stand(&[UNTRIED, UNTRIED], 0),
+];
 
 #[test]
 fn store_fails_later(rt: HostRuntime) {
     let failure = Failure::AfterKeeping { calls: 1 };
-    fails_at_the_second(
-        &rt,
-        rt.alloc(),
-        failure,
-        Step::Stand(&[UNTRIED, UNTRIED], 0),
-    );
+    plays(&rt, rt.alloc(), failure, STORE_FAILS_LATER);
 }
 
 // S is taken.
