@@ -144,7 +144,7 @@ InRange _ = ⊤
 -- the names that ask for a task without any settings, and that task
 abbrev pub bare_tasks : List (Text × Task)
 bare_tasks =
-    let usual = record { width = USUAL_LINE_DOTS; replacement = None } in
+    let usual : ReceiptOptions = record { width = USUAL_LINE_DOTS; replacement = None } in
     (codes "check", Check Hexadecimal) ∷ (codes "render", Render Hexadecimal USUAL_LINE_DOTS) ∷ (codes "draw", Draw Hexadecimal USUAL_LINE_DOTS)
     ∷ (codes "encode", Encode Hexadecimal usual) ∷ (codes "play", Play) ∷ (codes "loop", Loop USUAL_LINE_DOTS) ∷ []
 

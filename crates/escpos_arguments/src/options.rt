@@ -6,7 +6,7 @@ ghost use Rattle.clap.specs.Words.{found_of, first_of, rows_of};
 ghost use Rattle.escpos_text.specs.Replacements.{is_replacement};
 ghost use Rattle.escpos_receipt.specs.declared.options.ReceiptOptions.{ReceiptOptions};
 ghost use Rattle.escpos_jobs.specs.declared.task.Task.{Task};
-ghost use Rattle.escpos_arguments.specs.Arguments.{AsksBy, GivesOptions, HasNoOptions, InRange, IsOptions, IsReplacedBy};
+ghost use Rattle.escpos_arguments.specs.Arguments.{AsksBy, GivesOptions, HasNoOptions, HasNoReplacement, InRange, IsOptions, IsReplacedBy};
 
 use crate::form::form_given;
 use crate::width::{has_no_width, width_or_usual};
@@ -43,7 +43,17 @@ pub(crate) fn options_or_usual(given: &ArgMatches) -> Result<ReceiptOptions, NoT
 pub(crate) fn has_no_options(given: &ArgMatches) -> bool
     ensures { IsTrue result ↔ HasNoOptions (rows_of (found_of given.now)) }
 {
-    has_no_width(given) && given.get_str("replace").is_none()
+    has_no_width(given) && has_no_replacement(given)
+}
+
+// Whether no replacement is given.
+fn has_no_replacement(given: &ArgMatches) -> bool
+    ensures { IsTrue result ↔ HasNoReplacement (rows_of (found_of given.now)) }
+{
+    match given.get_str("replace") {
+        Some(_) => false,
+        None => true,
+    }
 }
 
 // What is printed in place of a character that no code table has, if that is given: one printed character of ASCII.
