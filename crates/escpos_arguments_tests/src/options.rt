@@ -20,31 +20,26 @@ fn wide(rt: &impl Abort, dots: u16) -> LineWidth {
 #[test]
 fn widths_of_streams(rt: HostRuntime) {
     let width = wide(&rt, 384);
-    let (hexadecimal, raw) = (Form::Hexadecimal, Form::Raw);
-    let render = Task::Render {
-        form: hexadecimal,
-        width,
-    };
-    let raw_render = Task::Render { form: raw, width };
-    let raw_draw = Task::Draw { form: raw, width };
-    let draw = Task::Draw {
-        form: hexadecimal,
-        width,
-    };
-    let rows: [(&[&str], Task); 9] = [
-        (&["render", "--width", "384"], render),
-        (&["render", "--width=384"], render),
-        (&["render", "--width", "0384"], render),
-        (&["render", "--raw", "--width", "384"], raw_render),
-        (&["render", "--width", "384", "--raw"], raw_render),
-        (&["draw", "--width", "384"], draw),
-        (&["draw", "--width", "384", "--raw"], raw_draw),
-        (&["draw", "--raw", "--width=384"], raw_draw),
-        (&["loop", "--width", "384"], Task::Loop { width }),
+    let renders: [(&[&str], Form); 5] = [
+        (&["render", "--width", "384"], Form::Hexadecimal),
+        (&["render", "--width=384"], Form::Hexadecimal),
+        (&["render", "--width", "0384"], Form::Hexadecimal),
+        (&["render", "--raw", "--width", "384"], Form::Raw),
+        (&["render", "--width", "384", "--raw"], Form::Raw),
     ];
-    for (words, task) in rows {
-        asks_for(&rt, rt.alloc(), words, Ok(task));
+    for (words, form) in renders {
+        asks_for(&rt, rt.alloc(), words, Ok(Task::Render { form, width }));
     }
+    let draws: [(&[&str], Form); 3] = [
+        (&["draw", "--width", "384"], Form::Hexadecimal),
+        (&["draw", "--width", "384", "--raw"], Form::Raw),
+        (&["draw", "--raw", "--width=384"], Form::Raw),
+    ];
+    for (words, form) in draws {
+        asks_for(&rt, rt.alloc(), words, Ok(Task::Draw { form, width }));
+    }
+    let words = ["loop", "--width", "384"];
+    asks_for(&rt, rt.alloc(), &words, Ok(Task::Loop { width }));
 }
 
 // The least width, the greatest, and the usual one, which is also that of `render` alone; `--` may follow a width.
