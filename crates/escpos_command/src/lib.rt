@@ -45,6 +45,6 @@ pub use parameter::{
 };
 pub use qr::{MOST_QR_DATA, QrData};
 pub use raster::{HIGHEST, Raster, RasterFault, WIDEST, is_height, is_scale, is_width};
-pub use setting::{Setting, SettingKind};
+pub use setting::{Row, Setting, SettingKind, TABLE, Values};
 pub use spelling::LONGEST_SPELLING;
 pub use writing::write_commands;

@@ -1,9 +1,12 @@
 //! The texts of usage, help and version.
 
-ghost use Rattle.std.specs.Prelude.{◌≢◌, OnOk, IsTrue};
+ghost use Rattle.std.specs.Prelude.{◌≢◌, OnOk, IfErr, IsTrue};
+ghost use Rattle.std.specs.Io.KnownBytes.{Appends};
+ghost use Rattle.escpos_help.specs.Help.{help_text};
+ghost use Rattle.escpos_job_parts.specs.Ending.{PrintsText, job_end};
 
+use crate::settings::put_settings;
 use escpos_io::{ByteOut, Device, put_all};
-use escpos_job_parts::ending::say;
 use escpos_job_parts::status::Status;
 
 /// The text for arguments that ask for the version: that of the program, and the profile of commands that it knows.
@@ -36,8 +39,8 @@ usage: escpos_cli check [--raw] < STREAM
        escpos_cli --version
 ";
 
-/// The text for arguments that ask for help.
-pub const HELP: &str = "\
+/// The text for arguments that ask for help, up to the lines that `settings` prints.
+pub const HELP_START: &str = "\
 escpos_cli shows what an ESC/POS byte stream says to a receipt printer, or the
 exact byte at which the stream is refused, and writes the stream of a receipt.
 Over TCP it is a printer, or sends a receipt to one and learns that it is
@@ -85,52 +88,34 @@ line `memory` says that the program ran out of memory.
           18        CAN     refused: page mode
           1B 0C     ESC FF  refused: page mode
           1B 20     ESC SP  refused: positions in the line
-          1B 21     ESC !   taken
           1B 24     ESC $   refused: positions in the line
           1B 25     ESC %   refused: characters that the host defines
           1B 26     ESC &   refused: characters that the host defines
           1B 28     ESC (   refused: the buzzer
           1B 2A     ESC *   refused: an image in another form than GS v 0
-          1B 2D     ESC -   taken
-          1B 32     ESC 2   taken
-          1B 33     ESC 3   taken
-          1B 3C     ESC <   taken, with no effect
-          1B 3D     ESC =   taken, with no effect
           1B 3F     ESC ?   refused: characters that the host defines
           1B 40     ESC @   taken
           1B 44     ESC D   refused: tab stops
-          1B 45     ESC E   taken
-          1B 47     ESC G   taken
           1B 4A     ESC J   taken
           1B 4B     ESC K   refused: feeds backwards
           1B 4C     ESC L   refused: page mode
-          1B 4D     ESC M   taken
-          1B 52     ESC R   taken
           1B 53     ESC S   refused: page mode
           1B 54     ESC T   refused: page mode
-          1B 55     ESC U   taken, with no effect
           1B 56     ESC V   refused: turned characters
           1B 57     ESC W   refused: page mode
           1B 5C     ESC \\   refused: positions in the line
-          1B 61     ESC a   taken
-          1B 63 33  ESC c 3 taken, with no effect
-          1B 63 34  ESC c 4 taken, with no effect
-          1B 63 35  ESC c 5 taken, with no effect
           1B 64     ESC d   taken
           1B 65     ESC e   refused: feeds backwards
           1B 69     ESC i   refused: an older form of a cut; GS V is taken
           1B 6D     ESC m   refused: an older form of a cut; GS V is taken
           1B 70     ESC p   taken
           1B 72     ESC r   refused: a second colour
-          1B 74     ESC t   taken
           1B 75     ESC u   refused: a status request; DLE EOT is taken
           1B 76     ESC v   refused: a status request; DLE EOT is taken
-          1B 7B     ESC {   taken
           1C 21     FS !    refused: Kanji characters
           1C 26     FS &    refused: Kanji characters
           1C 28     FS (    refused: Kanji characters, images that are kept
           1C 2D     FS -    refused: Kanji characters
-          1C 2E     FS .    taken, with no effect
           1C 32     FS 2    refused: Kanji characters
           1C 3F     FS ?    refused: Kanji characters
           1C 43     FS C    refused: Kanji characters
@@ -139,7 +124,6 @@ line `memory` says that the program ran out of memory.
           1C 67     FS g    refused: memory of the machine
           1C 70     FS p    refused: images that the machine keeps
           1C 71     FS q    refused: images that the machine keeps
-          1D 21     GS !    taken
           1D 24     GS $    refused: page mode
           1D 28 41  GS ( A  refused: a test print of the machine
           1D 28 43  GS ( C  refused: memory of the machine
@@ -157,10 +141,8 @@ line `memory` says that the program ran out of memory.
           1D 2F     GS /    refused: an image in another form than GS v 0
           1D 38     GS 8 L  refused: an image in another form than GS v 0
           1D 3A     GS :    refused: macros
-          1D 42     GS B    taken
           1D 43     GS C    refused: counters of the machine
           1D 44     GS D    refused: images that the machine keeps
-          1D 48     GS H    taken
           1D 49     GS I    refused: an answer that the line has no use for
           1D 4C     GS L    refused: margins
           1D 50     GS P    refused: other motion units
@@ -171,18 +153,21 @@ line `memory` says that the program ran out of memory.
           1D 5C     GS \\    refused: page mode
           1D 5E     GS ^    refused: macros
           1D 61     GS a    taken
-          1D 62     GS b    taken
           1D 63     GS c    refused: counters of the machine
-          1D 66     GS f    taken
           1D 67     GS g    refused: counters of the machine
-          1D 68     GS h    taken
           1D 6B     GS k    taken
           1D 72     GS r    refused: a status request; DLE EOT is taken
           1D 76 30  GS v 0  taken
-          1D 77     GS w    taken
           1D 7A     GS z    refused: settings of the machine
           1D 7C     GS |    refused: settings of the machine
 
+      These only set something, or have no effect, which docs/PROFILE.md tells
+      apart. The last word is what a listing calls the command:
+
+";
+
+/// What follows those lines.
+pub const HELP_END: &str = "
   escpos_cli render [--raw] [--width D] [--text]
       Writes the paper that the commands print, an item a line: rows of
       characters with their alignment and styles, barcodes, rasters, QR codes,
@@ -618,19 +603,52 @@ const BEFORE_PART: &str = "\n  escpos_cli ";
 
 const AFTER_PARTS: &str = "\nExit status: ";
 
+/// Prints the help. The status is `Good`, or `Device` if `output` has failed.
+pub fn say_all<W: ByteOut>(output: &mut W) -> Status
+    ensures says { PrintsText (job_end (W.written output.old) (W.written output.new) (W.failed output.new) result) help_text Status.Good }
+    ensures not_hidden { result ≢ Status.Device → ¬ IsTrue (W.failed output.old) → ¬ IsTrue (W.failed output.new) }
+{
+    match put_help(output) {
+        Ok(()) => Status::Good,
+        Err(_) => Status::Device,
+    }
+}
+
 /// Prints the part of the help that is about a word; all of it for a word that has none. The status is `Good`, or `Device` if
 /// `output` has failed.
 pub fn say_help<W: ByteOut>(word: &str, output: &mut W) -> Status
     ensures never_usage { result ≢ Status.Usage }
     ensures not_hidden { result ≢ Status.Device → ¬ IsTrue (W.failed output.old) → ¬ IsTrue (W.failed output.new) }
 {
-    let Some(part) = part_on(word) else {
-        return say(HELP.as_bytes(), output, Status::Good);
+    let ended = match (first_part(word), part_on(word)) {
+        (Some(part), _) => put_first(part, output),
+        (None, Some(part)) => put_part(part, output),
+        (None, None) => put_help(output),
     };
-    match put_part(part, output) {
+    match ended {
         Ok(()) => Status::Good,
         Err(_) => Status::Device,
     }
+}
+
+// Prints the help.
+fn put_help<W: ByteOut>(output: &mut W) -> Result<(), Device>
+    ensures all { OnOk result (Appends (W.written output.old) (W.written output.new) help_text) }
+    ensures failed { IfErr result (λ _. IsTrue (W.failed output.new)) }
+    ensures not_failed { OnOk result (¬ IsTrue (W.failed output.old) → ¬ IsTrue (W.failed output.new)) }
+{
+    put_all(HELP_START.as_bytes(), output)?;
+    put_settings(output)?;
+    put_all(HELP_END.as_bytes(), output)?;
+    Ok(())
+}
+
+// Prints the first part of the help, which ends with the lines of the settings.
+fn put_first<W: ByteOut>(part: &str, output: &mut W) -> Result<(), Device>
+    ensures not_failed { OnOk result (¬ IsTrue (W.failed output.old) → ¬ IsTrue (W.failed output.new)) }
+{
+    put_part(part, output)?;
+    put_settings(output)
 }
 
 // Prints a part of the help, as it stands there.
@@ -641,10 +659,19 @@ fn put_part<W: ByteOut>(part: &str, output: &mut W) -> Result<(), Device>
     put_all(part.as_bytes(), output)
 }
 
-// The part of the help that is about a word, from the word on.
+// The first part of the help, up to the lines of the settings, if it is about this word.
+fn first_part(word: &str) -> Option<&'static str> {
+    let (_, part) = HELP_START.split_once(BEFORE_PART)?;
+    if part.split_whitespace().next() == Some(word) {
+        Some(part)
+    } else {
+        None
+    }
+}
+
+// The later part of the help that is about a word, from the word on.
 fn part_on(word: &str) -> Option<&'static str> {
-    let (_, parts) = HELP.split_once(BEFORE_PART)?;
-    for part in parts.split(BEFORE_PART) {
+    for part in HELP_END.split(BEFORE_PART) {
         if part.split_whitespace().next() == Some(word) {
             return match part.split_once(AFTER_PARTS) {
                 Some((own, _)) => Some(own),

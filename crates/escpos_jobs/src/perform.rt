@@ -10,14 +10,15 @@ ghost use Rattle.escpos_stream_jobs.specs.Render.{Renders, RendersText};
 ghost use Rattle.escpos_job_parts.specs.Ending.{PrintsText, memory_line, job_end};
 ghost use Rattle.escpos_stream_jobs.specs.Image.{MakesEntries};
 ghost use Rattle.escpos_script.specs.Play.{Plays};
-ghost use Rattle.escpos_help.specs.declared.usage.TheConstants.{HELP, USAGE};
+ghost use Rattle.escpos_help.specs.Help.{help_text};
+ghost use Rattle.escpos_help.specs.declared.usage.TheConstants.{USAGE};
 ghost use Rattle.escpos_jobs.specs.Perform.{ReadsInput, UsesLinks};
 ghost use Rattle.escpos_receipt.specs.declared.options.ReceiptOptions.{ReceiptOptions};
 
 use crate::task::{NoTask, Task};
 use escpos_addresses::printer_link::Printers;
 use escpos_addresses::wait::Within;
-use escpos_help::usage::{HELP, USAGE};
+use escpos_help::usage::{USAGE, say_all};
 use escpos_io::{ByteIn, ByteOut};
 use escpos_job_parts::ending::{MEMORY, say};
 use escpos_job_parts::status::Status;
@@ -61,7 +62,7 @@ pub fn perform<N: Printers + Net<Listener = TcpListener>, R: ByteIn, W: ByteOut>
     ensures play { asked ≡ Ok Task.Play →
         IfSome (R.to_come input.old) (λ text. Plays (job_end (W.written output.old) (W.written output.new) (W.failed output.new) result) text) }
     ensures help { asked ≡ Err NoTask.Help →
-        PrintsText (job_end (W.written output.old) (W.written output.new) (W.failed output.new) result) HELP.now Status.Good }
+        PrintsText (job_end (W.written output.old) (W.written output.new) (W.failed output.new) result) help_text Status.Good }
     ensures usage { asked ≡ Err NoTask.Usage →
         PrintsText (job_end (W.written output.old) (W.written output.new) (W.failed output.new) result) USAGE.now Status.Usage }
     ensures memory { asked ≡ Err NoTask.Memory →
@@ -124,7 +125,7 @@ pub fn perform<N: Printers + Net<Listener = TcpListener>, R: ByteIn, W: ByteOut>
             None => show_status(net, *address, output),
         },
         Ok(Task::Loop { width }) => loop_receipt(net, alloc, *width, input, output),
-        Err(NoTask::Help) => say(HELP.as_bytes(), output, Status::Good),
+        Err(NoTask::Help) => say_all(output),
         Err(NoTask::Usage) => say(USAGE.as_bytes(), output, Status::Usage),
         Err(NoTask::Memory) => say(MEMORY, output, Status::Memory),
     }

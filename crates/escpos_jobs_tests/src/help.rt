@@ -1,7 +1,7 @@
 //! What no job prints: the help, the usage, and the statuses. What the help shows is what the jobs do.
 
 use escpos_decode::Decoder;
-use escpos_help::usage::{HELP, USAGE, VERSION, say_help};
+use escpos_help::usage::{USAGE, VERSION, say_all, say_help};
 use escpos_host::JsonFault;
 use escpos_io::{ByteIn, MemoryIn, MemoryOut};
 use escpos_job_parts::status::Status;
@@ -13,8 +13,21 @@ use escpos_test_receipts::{faults, joined, read_receipt};
 use std::alloc::Global;
 use std::process::Abort;
 
+// More bytes than the help has.
+const HELP_BYTES: usize = 32768;
+
+// The whole help.
+fn whole_help<'a>(rt: &impl Abort, room: &'a mut [u8]) -> &'a str {
+    let mut output = MemoryOut::new(room);
+    assert!(rt; say_all(&mut output) == Status::Good);
+    let count = output.written().len();
+    str::from_utf8(&room[..count]).expect(rt, "a text")
+}
+
 #[test]
 fn each_thing_asked_for(rt: HostRuntime) {
+    let mut help_room = [0; HELP_BYTES];
+    let help = whole_help(&rt, &mut help_room);
     let rows: [(Result<Task, NoTask>, &[u8], Status); 8] = [
         (
             Ok(check_task()),
@@ -33,11 +46,11 @@ fn each_thing_asked_for(rt: HostRuntime) {
             b"refused 5 NotJson\n",
             Status::Refused,
         ),
-        (Err(NoTask::Help), HELP.as_bytes(), Status::Good),
+        (Err(NoTask::Help), help.as_bytes(), Status::Good),
         (Err(NoTask::Usage), USAGE.as_bytes(), Status::Usage),
         (Err(NoTask::Memory), b"memory\n", Status::Memory),
     ];
-    let mut room = [0; 32768];
+    let mut room = [0; HELP_BYTES];
     for (asked, output, status) in rows {
         let mut source = MemoryIn::new(b"41 0A", 100);
         let wanted = (output, status);
@@ -51,22 +64,31 @@ fn each_thing_asked_for(rt: HostRuntime) {
 
 #[test]
 fn usage_and_help(rt: HostRuntime) {
+    let mut room = [0; HELP_BYTES];
+    let help = whole_help(&rt, &mut room);
     for name in [
         "check", "render", "draw", "encode", "emulate", "send", "status", "loop", "queue",
         "deliver", "ledger", "help",
     ] {
         assert!(rt; USAGE.contains(name));
-        assert!(rt; HELP.contains(name));
+        assert!(rt; help.contains(name));
     }
-    assert!(rt; HELP.contains("0 good, 1 refused content, 2 usage, 3 device, 4 memory"));
-    assert!(rt; HELP.contains("than 16777216 bytes"));
-    assert!(rt; HELP.contains("[F,W,H,B,U,T]"));
-    assert!(rt; HELP.contains("QR codes: functions 65, 67, 69, 80 and 81"));
-    assert!(rt; HELP.contains("a QR code of 1 to 7089 bytes"));
+    assert!(rt; help.contains("0 good, 1 refused content, 2 usage, 3 device, 4 memory"));
+    assert!(rt; help.contains("than 16777216 bytes"));
+    assert!(rt; help.contains("[F,W,H,B,U,T]"));
+    assert!(rt; help.contains("QR codes: functions 65, 67, 69, 80 and 81"));
+    assert!(rt; help.contains("a QR code of 1 to 7089 bytes"));
 }
 
 // A job that reads this input, as the help shows it: what the job writes stands below the command, each line indented.
-fn is_shown(rt: &impl Abort, alloc: Global, (name, input): (&str, &str), task: Task, line: &str) {
+fn is_shown(
+    rt: &impl Abort,
+    alloc: Global,
+    help: &str,
+    (name, input): (&str, &str),
+    task: Task,
+    line: &str,
+) {
     let written = line.as_bytes();
     assert!(rt; prints(alloc, task, input.as_bytes(), (written, Status::Good)));
     let mut shown = format!(in alloc; "$ echo '{input}' | escpos_cli {name}\n").expect(
@@ -77,20 +99,22 @@ fn is_shown(rt: &impl Abort, alloc: Global, (name, input): (&str, &str), task: T
         shown.push_str(line).expect(rt, "memory");
         shown.push_str("\n").expect(rt, "memory");
     }
-    assert!(rt; HELP.contains(shown.as_str()));
+    assert!(rt; help.contains(shown.as_str()));
 }
 
 // What the help shows of each job is what the job writes.
 #[test]
 fn help_shows_what_the_jobs_write(rt: HostRuntime) {
+    let mut room = [0; HELP_BYTES];
+    let help = whole_help(&rt, &mut room);
     let stream = "1B 40 48 69 0A 1D 56 00";
     let listing = "0 init\n2 char 48\n3 char 69\n4 lf\n5 cut 00\nend 8 pending 0\n";
-    is_shown(&rt, rt.alloc(), ("check", stream), check_task(), listing);
+    is_shown(&rt, rt.alloc(), help, ("check", stream), check_task(), listing);
     let paper = "row left Hi\nfeed 1\ncut full\n";
-    is_shown(&rt, rt.alloc(), ("render", stream), render_task(), paper);
+    is_shown(&rt, rt.alloc(), help, ("render", stream), render_task(), paper);
     let receipt = "[{\"line\":\"Hi\"},{\"cut\":\"full\"}]";
     let shown = ("encode", receipt);
-    is_shown(&rt, rt.alloc(), shown, encode_task(), "48690a1d5600\n");
+    is_shown(&rt, rt.alloc(), help, shown, encode_task(), "48690a1d5600\n");
 }
 
 #[test]
@@ -139,9 +163,11 @@ fn is_taken(rt: &impl Abort, alloc: Global, bytes: &str, is_last_refused: bool) 
 // The Reference's commands by their first bytes: the decoder takes them, or refuses the last of the bytes, as the table says.
 #[test]
 fn help_has_what_is_taken_and_refused(rt: HostRuntime) {
+    let mut room = [0; HELP_BYTES];
+    let help = whole_help(&rt, &mut room);
     let mut taken = 0u32;
     let mut refused = 0u32;
-    for line in HELP.lines() {
+    for line in help.lines() {
         let (Some(bytes), Some(verdict)) = (line.get(10..20), line.get(28..)) else {
             continue;
         };
@@ -158,19 +184,21 @@ fn help_has_what_is_taken_and_refused(rt: HostRuntime) {
 }
 
 // The help has the number and the name of a reason.
-fn is_in_help(rt: &impl Abort, alloc: Global, fault: JsonFault) {
+fn is_in_help(rt: &impl Abort, alloc: Global, help: &str, fault: JsonFault) {
     let number = fault.number();
     let name = fault.name();
     let said = format!(in alloc; "{number} {name}").expect(rt, "memory");
-    assert!(rt; HELP.contains(said.as_str()), "{name}");
+    assert!(rt; help.contains(said.as_str()), "{name}");
 }
 
 // No text gives a command that no receipt has.
 #[test]
 fn help_has_each_reason(rt: HostRuntime) {
+    let mut room = [0; HELP_BYTES];
+    let help = whole_help(&rt, &mut room);
     for fault in faults() {
         if fault.number() != 2 {
-            is_in_help(&rt, rt.alloc(), *fault);
+            is_in_help(&rt, rt.alloc(), help, *fault);
         }
     }
 }
@@ -190,8 +218,10 @@ fn describes(rt: &impl Abort, alloc: Global, entry: &str) {
 
 #[test]
 fn help_has_an_example_of_each_member(rt: HostRuntime) {
+    let mut room = [0; HELP_BYTES];
+    let help = whole_help(&rt, &mut room);
     let mut count = 0u32;
-    for line in HELP.lines() {
+    for line in help.lines() {
         if let Some(entry) = example_in(line) {
             if !line.contains("echo") {
                 describes(&rt, rt.alloc(), entry);
@@ -222,6 +252,8 @@ fn says_help(rt: &impl Abort, word: &str, wanted: &str) {
 // The parts of the help, each with its word, are all of it but what stands before and after them.
 #[test]
 fn help_on_each_word(rt: HostRuntime) {
+    let mut room = [0; HELP_BYTES];
+    let help = whole_help(&rt, &mut room);
     let words = [
         "check",
         "render",
@@ -241,15 +273,15 @@ fn help_on_each_word(rt: HostRuntime) {
         "completions",
         "help",
     ];
-    let mut rest = HELP
+    let mut rest = help
         .find("  escpos_cli check")
         .expect(&rt, "the first part");
     for place in 0..words.len() {
         let next = match words.get(place + 1) {
-            Some(word) => next_part(&rt, rt.alloc(), word),
-            None => HELP.find("\nExit status: ").expect(&rt, "the end"),
+            Some(word) => next_part(&rt, rt.alloc(), help, word),
+            None => help.find("\nExit status: ").expect(&rt, "the end"),
         };
-        let part = HELP.get(rest..next).expect(&rt, "a part");
+        let part = help.get(rest..next).expect(&rt, "a part");
         says_help(&rt, words[place], part);
         rest = next + 1;
     }
@@ -262,12 +294,12 @@ fn help_on_each_word(rt: HostRuntime) {
         "--help",
         "escpos_cli",
     ] {
-        says_help(&rt, word, HELP);
+        says_help(&rt, word, help);
     }
 }
 
 // Where the line feed before the part of this word stands.
-fn next_part(rt: &impl Abort, alloc: Global, word: &str) -> usize {
+fn next_part(rt: &impl Abort, alloc: Global, help: &str, word: &str) -> usize {
     let head = format!(in alloc; "\n  escpos_cli {word}").expect(rt, "memory");
-    HELP.find(head.as_str()).expect(rt, "a part")
+    help.find(head.as_str()).expect(rt, "a part")
 }

@@ -2,7 +2,7 @@
 
 use crate::support::sockets::listens;
 use escpos_command::LineWidth;
-use escpos_help::usage::HELP;
+use escpos_help::usage::HELP_END;
 use escpos_io::{MemoryIn, MemoryOut};
 use escpos_job_parts::condition::ONLINE;
 use escpos_job_parts::status::Status;
@@ -44,7 +44,7 @@ fn loop_rows(rt: HostRuntime) {
         ),
     ];
     let shown = "          row left Hi\n          feed 1\n          recorded 0\n";
-    assert!(&rt; HELP.contains(shown));
+    assert!(&rt; HELP_END.contains(shown));
     for (text, printed, status) in rows {
         goes_round(&rt, rt.alloc(), text, (printed, status));
     }
