@@ -289,7 +289,7 @@ fn entries_if_whole<'a>(
         × (Whole commands → ¬ IsPrintable options.now.width commands)) }
     ensures refused { (fault : JsonFault) → IsErrOf result (JsonError.Refused fault) → IsRefusedEntry options.now fault (map view values.now) }
 {
-    let entries = read_entries(alloc, options, values)?;
+    let entries = read_values::<Entry<'a>>(alloc, options, values)?;
     Ok(if are_whole(&entries) && are_printable(options.width, &entries) {
         Some(entries)
     } else {
@@ -307,7 +307,7 @@ fn receipt_of(
     ensures printable { IfOk result (λ receipt. IsPrintable options.now.width receipt) }
     ensures refused { (fault : JsonFault) → IsErrOf result (JsonError.Refused fault) → IsRefusedArray options.now fault (map view values.now) }
 {
-    let commands = match read_commands(alloc, options, values) {
+    let commands = match read_values::<Command>(alloc, options, values) {
         Ok(commands) => commands,
         Err(error) => return Err(error),
     };
@@ -338,101 +338,101 @@ fn read_at<'a>(
     }
 }
 
-// The entries, one after another.
-fn read_entries<'a>(
+// What entries of a text are read as: commands, or entries that give them.
+trait ReadAs<'a>: Sized {
+    // The commands that some of these are.
+    ghost commands: { List Self → List Command };
+
+    // None, which are no commands.
+    fn none(alloc: Global) -> Vec<Self>
+        ensures { commands result.items ≡ [] };
+
+    // Adds what gives the commands of one entry of the text.
+    fn add(given: &mut Vec<Self>, meaning: Meaning<'a>) -> Result<(), AllocError>
+        ensures { OnOk result (commands given.new.items ≡ commands given.old.items ++ commands_meant meaning.entry) };
+}
+
+impl<'a> ReadAs<'a> for Entry<'a> {
+    ghost commands = { flat_map commands_in };
+
+    fn none(alloc: Global) -> Vec<Self> {
+        Vec::new(alloc)
+    }
+
+    fn add(given: &mut Vec<Self>, meaning: Meaning<'a>) -> Result<(), AllocError> {
+        match meaning {
+            Meaning::Entry(entry) => {
+                given.reserve(1)?;
+                given.push_reserved(entry);
+            }
+            Meaning::QrCode(code) => {
+                given.reserve(4)?;
+                given.push_reserved(Entry::Command(Command::QrSize(code.size)));
+                given.push_reserved(Entry::Command(Command::QrLevel(code.level)));
+                given.push_reserved(Entry::Command(Command::QrStore(code.stored)));
+                given.push_reserved(Entry::Command(Command::QrPrint));
+            }
+            Meaning::Choice => {}
+        }
+        Ok(())
+    }
+}
+
+impl<'a> ReadAs<'a> for Command {
+    ghost commands = { λ commands. commands };
+
+    fn none(alloc: Global) -> Vec<Self> {
+        Vec::new(alloc)
+    }
+
+    fn add(given: &mut Vec<Self>, meaning: Meaning<'a>) -> Result<(), AllocError> {
+        match meaning {
+            Meaning::Entry(Entry::Text(text)) => add_text(given, text.bytes(), 0),
+            Meaning::Entry(Entry::Line(text)) => {
+                add_text(given, text.bytes(), 1)?;
+                given.push_reserved(Command::LineFeed);
+                Ok(())
+            }
+            Meaning::Entry(Entry::Command(command)) => {
+                given.reserve(1)?;
+                given.push_reserved(command);
+                Ok(())
+            }
+            Meaning::QrCode(code) => {
+                given.reserve(4)?;
+                given.push_reserved(Command::QrSize(code.size));
+                given.push_reserved(Command::QrLevel(code.level));
+                given.push_reserved(Command::QrStore(code.stored));
+                given.push_reserved(Command::QrPrint);
+                Ok(())
+            }
+            Meaning::Choice => Ok(()),
+        }
+    }
+}
+
+// What the values give, one after another.
+fn read_values<'a, T: ReadAs<'a> + Drop>(
     alloc: Global,
     options: &ReceiptOptions,
     values: &'a [Value],
-) -> Result<Vec<Entry<'a>>, JsonError>
-    ensures commands { IfOk result (λ given. Give options.now (map view values.now) (flat_map commands_in given.items)) }
+) -> Result<Vec<T>, JsonError>
+    ensures commands { IfOk result (λ given. Give options.now (map view values.now) (T.commands given.items)) }
     ensures refused { (fault : JsonFault) → IsErrOf result (JsonError.Refused fault) → IsRefusedEntry options.now fault (map view values.now) }
 {
     let mut in_force = options.in_force();
-    let mut given = Vec::new(alloc);
+    let mut given = T::none(alloc);
     for (at, value) in values.iter().enumerate() {
         let meaning = match read_at(alloc, at, &mut in_force, value) {
             Ok(meaning) => meaning,
             Err(error) => return Err(error),
         };
-        match add_entries(&mut given, meaning) {
+        match T::add(&mut given, meaning) {
             Ok(()) => {}
             Err(_) => return Err(JsonError::Memory),
         }
     }
     Ok(given)
-}
-
-// The commands of the entries, one after another. The entries aren't listed.
-fn read_commands(
-    alloc: Global,
-    options: &ReceiptOptions,
-    values: &[Value],
-) -> Result<Vec<Command>, JsonError>
-    ensures commands { IfOk result (λ given. Give options.now (map view values.now) given.items) }
-    ensures refused { (fault : JsonFault) → IsErrOf result (JsonError.Refused fault) → IsRefusedEntry options.now fault (map view values.now) }
-{
-    let mut in_force = options.in_force();
-    let mut given = Vec::new(alloc);
-    for (at, value) in values.iter().enumerate() {
-        let meaning = match read_at(alloc, at, &mut in_force, value) {
-            Ok(meaning) => meaning,
-            Err(error) => return Err(error),
-        };
-        match add_commands(&mut given, meaning) {
-            Ok(()) => {}
-            Err(_) => return Err(JsonError::Memory),
-        }
-    }
-    Ok(given)
-}
-
-// Adds what gives the commands of one entry of the text.
-fn add_entries<'a>(entries: &mut Vec<Entry<'a>>, meaning: Meaning<'a>) -> Result<(), AllocError>
-    ensures { OnOk result (flat_map commands_in entries.new.items ≡ flat_map commands_in entries.old.items ++ commands_meant meaning.entry) }
-{
-    match meaning {
-        Meaning::Entry(entry) => {
-            entries.reserve(1)?;
-            entries.push_reserved(entry);
-        }
-        Meaning::QrCode(code) => {
-            entries.reserve(4)?;
-            entries.push_reserved(Entry::Command(Command::QrSize(code.size)));
-            entries.push_reserved(Entry::Command(Command::QrLevel(code.level)));
-            entries.push_reserved(Entry::Command(Command::QrStore(code.stored)));
-            entries.push_reserved(Entry::Command(Command::QrPrint));
-        }
-        Meaning::Choice => {}
-    }
-    Ok(())
-}
-
-// Adds the commands of one entry of the text.
-fn add_commands(commands: &mut Vec<Command>, meaning: Meaning<'_>) -> Result<(), AllocError>
-    ensures { OnOk result (commands.new.items ≡ commands.old.items ++ commands_meant meaning.entry) }
-{
-    match meaning {
-        Meaning::Entry(Entry::Text(text)) => add_text(commands, text.bytes(), 0),
-        Meaning::Entry(Entry::Line(text)) => {
-            add_text(commands, text.bytes(), 1)?;
-            commands.push_reserved(Command::LineFeed);
-            Ok(())
-        }
-        Meaning::Entry(Entry::Command(command)) => {
-            commands.reserve(1)?;
-            commands.push_reserved(command);
-            Ok(())
-        }
-        Meaning::QrCode(code) => {
-            commands.reserve(4)?;
-            commands.push_reserved(Command::QrSize(code.size));
-            commands.push_reserved(Command::QrLevel(code.level));
-            commands.push_reserved(Command::QrStore(code.stored));
-            commands.push_reserved(Command::QrPrint);
-            Ok(())
-        }
-        Meaning::Choice => Ok(()),
-    }
 }
 
 // Adds the commands that these bytes spell, and makes room for `more` commands after them.
