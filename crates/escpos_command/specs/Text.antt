@@ -14,18 +14,8 @@ ends_text kind.Init = true
 ends_text (kind.Bars bars) = true
 ends_text (kind.Raster raster) = true
 ends_text (kind.Cut cut) = true
-ends_text (kind.Char b) = false
-ends_text kind.Return = false
-ends_text (kind.Set s) = false
-ends_text (kind.Pulse pulse) = false
-ends_text (kind.QrModel n) = false
-ends_text (kind.QrSize n) = false
-ends_text (kind.QrLevel n) = false
-ends_text (kind.QrStore stored) = false
 ends_text kind.QrPrint = true
-ends_text (kind.AutomaticStatus n) = false
-ends_text (kind.Status n) = false
-ends_text (kind.Mark id) = false
+ends_text _ = false
 
 -- The character of a Char command, as a list of one; none for any other command.
 abbrev pub characters : Command → List ℕ

@@ -11,47 +11,19 @@ use Rattle.escpos_receipt.specs.declared.receipt.ReceiptFault.TheVariants as fau
 -- A receipt may not have this command: the host itself puts Init before a receipt, and the answers to status requests and
 -- marks show the host how far the printer is.
 abbrev pub is_forbidden : Command → Bool
-is_forbidden (kind.Char b) = false
-is_forbidden kind.LineFeed = false
-is_forbidden kind.Return = false
-is_forbidden (kind.Set s) = false
 is_forbidden kind.Init = true
-is_forbidden (kind.FeedLines n) = false
-is_forbidden (kind.FeedUnits n) = false
-is_forbidden (kind.Pulse pulse) = false
-is_forbidden (kind.Bars bars) = false
-is_forbidden (kind.Raster raster) = false
-is_forbidden (kind.QrModel n) = false
-is_forbidden (kind.QrSize n) = false
-is_forbidden (kind.QrLevel n) = false
-is_forbidden (kind.QrStore stored) = false
-is_forbidden kind.QrPrint = false
-is_forbidden (kind.Cut cut) = false
 is_forbidden (kind.AutomaticStatus n) = true
 is_forbidden (kind.Status n) = true
 is_forbidden (kind.Mark id) = true
+is_forbidden _ = false
 
 -- A barcode, a raster, a QR code or a cut would first print the text that is in the line.
 abbrev pub needs_empty_line : Command → Bool
-needs_empty_line (kind.Char b) = false
-needs_empty_line kind.LineFeed = false
-needs_empty_line kind.Return = false
-needs_empty_line (kind.Set s) = false
-needs_empty_line kind.Init = false
-needs_empty_line (kind.FeedLines n) = false
-needs_empty_line (kind.FeedUnits n) = false
-needs_empty_line (kind.Pulse pulse) = false
 needs_empty_line (kind.Bars bars) = true
 needs_empty_line (kind.Raster raster) = true
-needs_empty_line (kind.QrModel n) = false
-needs_empty_line (kind.QrSize n) = false
-needs_empty_line (kind.QrLevel n) = false
-needs_empty_line (kind.QrStore stored) = false
 needs_empty_line kind.QrPrint = true
 needs_empty_line (kind.Cut cut) = true
-needs_empty_line (kind.AutomaticStatus n) = false
-needs_empty_line (kind.Status n) = false
-needs_empty_line (kind.Mark id) = false
+needs_empty_line _ = false
 
 abbrev pub is_nonempty : {X : Type 0} → List X → Bool
 is_nonempty [] = false

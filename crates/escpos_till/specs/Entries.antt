@@ -13,14 +13,9 @@ use Rattle.escpos_till.specs.Tries.{end_of_tries, last_or, tries}
 
 -- The mark number that an entry says is the next.
 abbrev pub next_of : Entry → Option ℕ
-next_of (entry.Queued content) = None
 next_of (entry.Tried number next) = Some next
-next_of (entry.Recorded number h) = None
 next_of (entry.Raised next h) = Some next
-next_of (entry.Cancelled number) = None
-next_of (entry.Key key) = None
-next_of (entry.Renewed last h) = None
-next_of (entry.Earlier number key) = None
+next_of _ = None
 
 -- The first mark number that is free: the last one that an entry says, 0 before any.
 abbrev pub next_free : List Entry → ℕ
@@ -29,15 +24,11 @@ next_free entries = last_or 0 (filter_map next_of entries)
 -- An entry that comes after these says that no mark with a number below this one can be answered any more: a receipt is recorded once the answer
 -- to a mark has come. A record without such a number, as in files of before, says it of the closing mark of the receipt's last try.
 abbrev pub heard_said : List Entry → Entry → ℕ
-heard_said before (entry.Queued content) = 0
-heard_said before (entry.Tried number next) = 0
 heard_said before (entry.Recorded number zero) = end_of_tries (tries before) number
 heard_said before (entry.Recorded number (suc h)) = suc h
 heard_said before (entry.Raised next h) = h
-heard_said before (entry.Cancelled number) = 0
-heard_said before (entry.Key key) = 0
 heard_said before (entry.Renewed last h) = h
-heard_said before (entry.Earlier number key) = 0
+heard_said before _ = 0
 
 -- The highest of this number and those that these entries say, which come after others.
 abbrev pub heard_after : List Entry → ℕ → List Entry → ℕ
@@ -52,13 +43,7 @@ heard entries = heard_after [] 0 entries
 
 abbrev pub content_of : Entry → Option Content
 content_of (entry.Queued content) = Some content
-content_of (entry.Tried number next) = None
-content_of (entry.Recorded number h) = None
-content_of (entry.Raised next h) = None
-content_of (entry.Cancelled number) = None
-content_of (entry.Key key) = None
-content_of (entry.Renewed last h) = None
-content_of (entry.Earlier number key) = None
+content_of _ = None
 
 -- The contents of the receipts that were taken, in the order of taking.
 abbrev pub contents : List Entry → List Content
@@ -75,14 +60,8 @@ numbered_from n (content ∷ more) = record { number = n; content = content } �
 
 -- The number of the last receipt that an older ledger has taken, if the entry says that its ledger goes on from one; 0 otherwise.
 abbrev pub earlier_of : Entry → ℕ
-earlier_of (entry.Queued content) = 0
-earlier_of (entry.Tried number next) = 0
-earlier_of (entry.Recorded number h) = 0
-earlier_of (entry.Raised next h) = 0
-earlier_of (entry.Cancelled number) = 0
-earlier_of (entry.Key key) = 0
 earlier_of (entry.Renewed last h) = last
-earlier_of (entry.Earlier number key) = 0
+earlier_of _ = 0
 
 -- A ledger that goes on from an older one says so in its first entry. Receipts with numbers up to this one were taken there, and are over.
 abbrev pub earlier : List Entry → ℕ
@@ -102,14 +81,8 @@ abbrev pub place_here : List Entry → ℕ → ℕ
 place_here entries number = number - (1 + earlier entries)
 
 abbrev pub record_of : Entry → Option ℕ
-record_of (entry.Queued content) = None
-record_of (entry.Tried number next) = None
 record_of (entry.Recorded number h) = Some number
-record_of (entry.Raised next h) = None
-record_of (entry.Cancelled number) = None
-record_of (entry.Key key) = None
-record_of (entry.Renewed last h) = None
-record_of (entry.Earlier number key) = None
+record_of _ = None
 
 -- The numbers of the receipts that are recorded, in the order of recording.
 abbrev pub recorded : List Entry → List ℕ
@@ -124,14 +97,8 @@ abbrev pub place_of : List Entry → ℕ → Option ℕ
 place_of entries number = place_in (recorded entries) number
 
 abbrev pub cancel_of : Entry → Option ℕ
-cancel_of (entry.Queued content) = None
-cancel_of (entry.Tried number next) = None
-cancel_of (entry.Recorded number h) = None
-cancel_of (entry.Raised next h) = None
 cancel_of (entry.Cancelled number) = Some number
-cancel_of (entry.Key key) = None
-cancel_of (entry.Renewed last h) = None
-cancel_of (entry.Earlier number key) = None
+cancel_of _ = None
 
 -- The numbers of the receipts that are cancelled, in the order of cancelling.
 abbrev pub cancelled : List Entry → List ℕ
@@ -150,14 +117,8 @@ abbrev pub waiting : List Entry → List Taken
 waiting entries = filter (λ receipt. is_open entries receipt.number) (taken entries)
 
 abbrev pub is_try_of : ℕ → Entry → Bool
-is_try_of number (entry.Queued content) = false
 is_try_of number (entry.Tried n next) = n == number
-is_try_of number (entry.Recorded n h) = false
-is_try_of number (entry.Raised next h) = false
-is_try_of number (entry.Cancelled n) = false
-is_try_of number (entry.Key key) = false
-is_try_of number (entry.Renewed last h) = false
-is_try_of number (entry.Earlier n key) = false
+is_try_of number _ = false
 
 -- How often a receipt was sent, or was about to be.
 abbrev pub times_tried : List Entry → ℕ → ℕ
@@ -199,14 +160,8 @@ pub record HasKey (entries : List Entry) (key : List ℕ) (number : ℕ) : Type 
   pub said : TakenWithKey entries key number ⊎ CameWithKey entries key number
 
 abbrev pub key_of : Entry → Option (List ℕ)
-key_of (entry.Queued content) = None
-key_of (entry.Tried number next) = None
-key_of (entry.Recorded number h) = None
-key_of (entry.Raised next h) = None
-key_of (entry.Cancelled number) = None
 key_of (entry.Key key) = Some key
-key_of (entry.Renewed last h) = None
-key_of (entry.Earlier number key) = None
+key_of _ = None
 
 -- The key that the last of some entries says; this one if there are none.
 abbrev pub last_key_or : Option (List ℕ) → List Entry → Option (List ℕ)

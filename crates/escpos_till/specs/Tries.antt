@@ -8,14 +8,8 @@ use Rattle.escpos_till.specs.declared.tries.Try.{Try}
 
 -- The try that an entry says. Its closing mark has the last of the numbers that are reserved with it.
 abbrev pub try_of : Entry → Option Try
-try_of (entry.Queued content) = None
 try_of (entry.Tried number next) = Some (record { number = number; closing = next - 1 })
-try_of (entry.Recorded number h) = None
-try_of (entry.Raised next h) = None
-try_of (entry.Cancelled number) = None
-try_of (entry.Key key) = None
-try_of (entry.Renewed last h) = None
-try_of (entry.Earlier number key) = None
+try_of _ = None
 
 -- All tries, in order.
 abbrev pub tries : List Entry → List Try
