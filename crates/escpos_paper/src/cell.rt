@@ -34,7 +34,7 @@ impl Cell {
 
 /// How wide a character of the font is at width 1, in dots.
 pub fn face_dots(face: FontFace) -> usize
-    ensures dots { result ≡ face_dots face }
+    ensures value { result ≡ face_dots face }
     ensures small { result ≤ 12 }
 {
     match face {

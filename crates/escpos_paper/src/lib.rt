@@ -25,7 +25,7 @@ mod text;
 mod write;
 
 pub use barcode::added_digit;
-pub use cell::{Cell, Cells, LINE_CELLS};
+pub use cell::{Cell, Cells, LINE_CELLS, face_dots};
 pub use content::{CONTENT_BYTES, Content, DOT_BYTES, Dots, QrContent};
 pub use digits::{all_digits, check_digit};
 pub use item::Item;

@@ -1,7 +1,7 @@
 //! The settings: how characters, barcodes, lines and QR codes are printed. What each command does to them is left to `paper`, but for
 //! those that set more than one attribute and those that are ignored in mid-line.
 
-ghost use Rattle.std.specs.Prelude.{◌≡◌, ◌↔◌, ◌*◌, IsTrue, Some};
+ghost use Rattle.std.specs.Prelude.{◌≡◌, ◌↔◌, ◌*◌, ◌≤◌, IsTrue, Some};
 ghost use Rattle.escpos_command.specs.declared.command.Command.TheVariants as kind;
 ghost use Rattle.escpos_command.specs.declared.setting.SettingKind.TheVariants as sets;
 ghost use Rattle.escpos_paper.specs.Styles.{power_on, power_on_settings, same_style, style_after};
@@ -95,7 +95,8 @@ impl Style {
 
     /// How wide a character in this style is, in dots.
     pub fn dots(&self) -> usize
-        ensures { result ≡ face_dots self.now.font * self.now.width }
+        ensures value { result ≡ face_dots self.now.font * self.now.width }
+        ensures small { result ≤ 3060 }
     {
         face_dots(self.font) * self.width as usize
     }

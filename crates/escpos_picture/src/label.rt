@@ -7,10 +7,10 @@ ghost use Rattle.escpos_picture.specs.BarItems.{stands_above, stands_below, labe
 
 use crate::characters::append_byte;
 use crate::numbers::{append_between, append_quarters};
-use crate::pen::{face_height, face_width};
+use crate::pen::face_height;
 use escpos_command::{FontFace, HriPosition};
 use escpos_io::{GATHERED_BYTES, Gather};
-use escpos_paper::BarStyle;
+use escpos_paper::{BarStyle, face_dots};
 
 /// The most bytes that a line of text takes: a barcode's text has at most 512 characters.
 pub const LABEL_BYTES: usize = 3328;
@@ -112,7 +112,7 @@ fn append_label_tag(gather: &mut Gather, face: FontFace, width: usize, base: usi
     append_between(
         gather,
         b"\" textLength=\"",
-        face_width(face) * count,
+        face_dots(face) * count,
         b"\">",
     );
 }

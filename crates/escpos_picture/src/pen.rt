@@ -2,7 +2,6 @@
 
 ghost use Rattle.std.specs.Prelude.{◌≡◌, ◌*◌, ◌≤◌};
 ghost use Rattle.escpos_command.specs.declared.line_width.TheConstants.{MOST_LINE_DOTS};
-ghost use Rattle.escpos_paper.specs.Cells.{face_dots};
 ghost use Rattle.escpos_picture.specs.Places.{Place, top, place_after, place_after_all, depth, row_above, face_height, cell_height, tallest, text_lines, across, downwards, line_depth, feed_depth, indent};
 
 use crate::qr::qr_height;
@@ -157,17 +156,6 @@ fn feed_depth(line: usize, above: usize, lines: u8) -> usize
         return 0;
     }
     line.saturating_sub(4 * above) + line * (usize::from(lines) - 1)
-}
-
-/// How wide a character of the font is at width 1, in dots.
-pub fn face_width(face: FontFace) -> usize
-    ensures value { result ≡ face_dots face }
-    ensures small { result ≤ 12 }
-{
-    match face {
-        FontFace::A => 12,
-        FontFace::B => 9,
-    }
 }
 
 /// How high a character of the font is at height 1, in dots.

@@ -10,10 +10,10 @@ ghost use Rattle.escpos_picture.specs.Groups.{row_drawing, row_tag, base_line, r
 
 use crate::characters::append_byte;
 use crate::numbers::{append_between, append_place, append_quarters};
-use crate::pen::{DEEPEST, face_height, face_width, indent, tallest};
+use crate::pen::{DEEPEST, face_height, indent, tallest};
 use escpos_command::{Alignment, FontFace, LineWidth};
 use escpos_io::{ByteOut, Device, GATHERED_BYTES, Gather, append_number, append_small_number};
-use escpos_paper::{Cell, Cells, LINE_CELLS, Style};
+use escpos_paper::{Cell, Cells, LINE_CELLS, Style, face_dots};
 
 /// The most bytes that come before the cells of a row.
 const START_BYTES: usize = 128;
@@ -110,7 +110,7 @@ fn dots(cells: &[Cell]) -> usize
 {
     let mut sum = 0;
     for cell in cells {
-        sum += style_dots(&cell.style);
+        sum += cell.style.dots();
     }
     sum
 }
@@ -128,7 +128,7 @@ fn put_runs<W: ByteOut>(gather: &mut Gather, cells: &[Cell], writer: &mut W) -> 
         let (run, following) = rest.split_at(count);
         gather.room(RUN_BYTES, writer)?;
         append_run(gather, x, &style, run);
-        x += style_dots(&style) * count;
+        x += style.dots() * count;
         rest = following;
     }
     Ok(())
@@ -202,7 +202,7 @@ fn append_ground(gather: &mut Gather, x: usize, style: &Style, cells: &[Cell])
     ensures same_count { gather.new.written ≡ gather.old.written }
     ensures short { length gather.new.kept ≤ length gather.old.kept + 128 }
 {
-    let width = style_dots(style) * cells.len();
+    let width = style.dots() * cells.len();
     let height = face_height(style.font) * usize::from(style.height);
     gather.extend(b"<path d=\"M");
     append_between(gather, b"", x, b" -");
@@ -225,7 +225,7 @@ fn append_run_tag(gather: &mut Gather, x: usize, style: &Style, cells: &[Cell])
     append_between(
         gather,
         b" textLength=\"",
-        face_width(style.font) * cells.len(),
+        face_dots(style.font) * cells.len(),
         b"\">",
     );
 }
@@ -321,7 +321,7 @@ fn append_underline(gather: &mut Gather, x: usize, style: &Style, cells: &[Cell]
     if style.underline == 0 {
         return;
     }
-    let width = style_dots(style) * cells.len();
+    let width = style.dots() * cells.len();
     let height = face_height(style.font) * usize::from(style.height);
     gather.extend(b"<path d=\"M");
     append_number(gather, x);
@@ -333,12 +333,4 @@ fn append_underline(gather: &mut Gather, x: usize, style: &Style, cells: &[Cell]
     append_between(gather, b"h", width, b"v");
     append_small_number(gather, style.underline);
     append_between(gather, b"h-", width, b"z\"/>");
-}
-
-// How wide a cell of this style is, in dots.
-fn style_dots(style: &Style) -> usize
-    ensures value { result ≡ face_dots style.now.font * style.now.width }
-    ensures small { result ≤ 3060 }
-{
-    face_width(style.font) * usize::from(style.width)
 }

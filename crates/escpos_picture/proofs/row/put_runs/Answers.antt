@@ -25,15 +25,15 @@ loop-rest-preserved g c =
     let step = run_drawing l.x (run style (bytes_of cells)) in
     let front = c.split_at.ensures.front_len in
     let back = c.split_at.ensures.back_len in
-    let narrow = c.style_dots.ensures.small in
+    let narrow = c.dots.ensures.small in
     record {
       so_far = record {
         done = far.done ++ step;
         given = appended_at _ _ _ _ _ _ _ _ _ _ far.done step far.given c.in_ok-room.ensures.given c.append_run.ensures.kept c.append_run.ensures.same_count;
         whole_is = far.whole_is ∙ ap (λ rs. far.done ++ runs_drawing l.x rs) c.first_run-count.ensures.run
-            ∙ rw (← c.split_at.ensures.front, ← c.split_at.ensures.back, c.style_dots.ensures.value) (rw front at (drawn_on far.done l.x style cells (runs following)));
+            ∙ rw (← c.split_at.ensures.front, ← c.split_at.ensures.back, c.dots.ensures.value) (rw front at (drawn_on far.done l.x style cells (runs following)));
       };
-      wide = wide_on l.x c.style_dots.result c.first_run-count.result.1 (length following) (length l.rest.now) (length c.args.cells.now) narrow back l.invariant.wide;
+      wide = wide_on l.x c.dots.result c.first_run-count.result.1 (length following) (length l.rest.now) (length c.args.cells.now) narrow back l.invariant.wide;
     }
 
 pub returns : goal.returns
