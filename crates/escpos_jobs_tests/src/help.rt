@@ -109,12 +109,33 @@ fn help_shows_what_the_jobs_write(rt: HostRuntime) {
     let help = whole_help(&rt, &mut room);
     let stream = "1B 40 48 69 0A 1D 56 00";
     let listing = "0 init\n2 char 48\n3 char 69\n4 lf\n5 cut 00\nend 8 pending 0\n";
-    is_shown(&rt, rt.alloc(), help, ("check", stream), check_task(), listing);
+    is_shown(
+        &rt,
+        rt.alloc(),
+        help,
+        ("check", stream),
+        check_task(),
+        listing,
+    );
     let paper = "row left Hi\nfeed 1\ncut full\n";
-    is_shown(&rt, rt.alloc(), help, ("render", stream), render_task(), paper);
+    is_shown(
+        &rt,
+        rt.alloc(),
+        help,
+        ("render", stream),
+        render_task(),
+        paper,
+    );
     let receipt = "[{\"line\":\"Hi\"},{\"cut\":\"full\"}]";
     let shown = ("encode", receipt);
-    is_shown(&rt, rt.alloc(), help, shown, encode_task(), "48690a1d5600\n");
+    is_shown(
+        &rt,
+        rt.alloc(),
+        help,
+        shown,
+        encode_task(),
+        "48690a1d5600\n",
+    );
 }
 
 #[test]

@@ -14,7 +14,7 @@ use Rattle.escpos_command.specs.declared.parameter.choices.FontFace.{FontFace}
 use Rattle.escpos_command.specs.declared.parameter.choices.FontFace.TheVariants.{A, B}
 use Rattle.escpos_paper.specs.declared.cell.Cell.{Cell}
 use Rattle.escpos_paper.specs.declared.style.Style.{Style}
-use Rattle.escpos_paper.specs.Cells.{cell_dots, dots, face_dots}
+use Rattle.escpos_paper.specs.Cells.{cell_dots, dots, face_dots, style_dots}
 use Rattle.escpos_paper.specs.Rows.{fits}
 use Rattle.escpos_paper.specs.Styles.{style, style_after}
 use Rattle.escpos_paper.specs.Typed.{IsTyping, typed}
@@ -77,11 +77,11 @@ cells_in_style grow s before (c ∷ cs) h is = absurd h
 
 -- ## Widths
 
-pub dots_in_style : (s : Style) (row : List Cell) → AllByRecursion (HasStyle s) row → dots row ≡ length row * (face_dots s.font * s.width)
+pub dots_in_style : (s : Style) (row : List Cell) → AllByRecursion (HasStyle s) row → dots row ≡ length row * style_dots s
 dots_in_style s [] h = omega arith
 dots_in_style s (x ∷ row) h =
     let rest = dots_in_style s row h.1 in
-    let one : cell_dots x ≡ face_dots s.font * s.width = ap (λ (t : Style). face_dots t.font * t.width) h.0 in
+    let one : cell_dots x ≡ style_dots s = ap style_dots h.0 in
     omega (arith, rest, one, sum_by-cons cell_dots x row)
 
 at_least : (n m : ℕ) → n ≤ at_least_one m → (n ≤ 1) ⊎ (n ≤ m)
@@ -98,11 +98,11 @@ inside width n zero h = omega arith
 inside width n (suc d) h = (le-div_iff_mul-le (omega arith)).0 h
 
 -- A line's characters fit on a row.
-pub row_fits : (width : ℕ) (s : Style) (row : List Cell) → AllByRecursion (HasStyle s) row → length row ≤ columns_of width s.font s.width → fits width row ≡ true
-row_fits width s row h few = either (nat_le (length row) 1) (nat_le (dots row) width) (go (at_least (length row) (width / (face_dots s.font * s.width)) few)) where
-  go : (length row ≤ 1) ⊎ (length row ≤ width / (face_dots s.font * s.width)) → (nat_le (length row) 1 ≡ true) ⊎ (nat_le (dots row) width ≡ true)
+pub row_fits : (width : ℕ) (s : Style) (row : List Cell) → AllByRecursion (HasStyle s) row → length row ≤ columns_of width s → fits width row ≡ true
+row_fits width s row h few = either (nat_le (length row) 1) (nat_le (dots row) width) (go (at_least (length row) (width / style_dots s) few)) where
+  go : (length row ≤ 1) ⊎ (length row ≤ width / style_dots s) → (nat_le (length row) 1 ≡ true) ⊎ (nat_le (dots row) width ≡ true)
   go (inl one) = inl (le-leb _ _ one)
-  go (inr some) = inr (le-leb _ _ (omega (arith, inside width (length row) (face_dots s.font * s.width) some, dots_in_style s row h)))
+  go (inr some) = inr (le-leb _ _ (omega (arith, inside width (length row) (style_dots s) some, dots_in_style s row h)))
 
 -- ## The end of a line
 
@@ -117,10 +117,10 @@ one_over width d some = go (width / d) (lt-div-mul-add some) where
   go zero h = omega (arith, h)
   go (suc m) h = h
 
-pub ends_at_line_end : (width : ℕ) (s : Style) (row : List Cell) → 1 ≤ s.width → AllByRecursion (HasStyle s) row → length row ≡ columns_of width s.font s.width
+pub ends_at_line_end : (width : ℕ) (s : Style) (row : List Cell) → 1 ≤ s.width → AllByRecursion (HasStyle s) row → length row ≡ columns_of width s
     → EndsAtLineEnd width s row
 ends_at_line_end width s row some h full =
-    let d = face_dots s.font * s.width in
+    let d = style_dots s in
     let wide : 1 ≤ d = mul-le-mul (face_some s.font) some in
     let dots_are = dots_in_style s row h in
     let same : length row * d ≡ at_least_one (width / d) * d = ap (λ n. n * d) full in

@@ -126,7 +126,7 @@ more_prints width s before text rest e first lines p shown same more =
     }
 
 lines_print : LawsBelow → (width : ℕ) (s : Style) (before : List Command) (e : Encoding) (lines : List (List ℕ)) (commands : List Command)
-    → line width before ≡ [] → IsInForce before e → IsSet s before → AllByRecursion (λ text. length text ≤ columns_of width s.font s.width) lines
+    → line width before ≡ [] → IsInForce before e → IsSet s before → AllByRecursion (λ text. length text ≤ columns_of width s) lines
     → lines_written e lines ≡ Ok commands → Prints width s before commands e lines
 unfolding shows
 lines_print laws width s before e [] commands none f is few w =
@@ -136,7 +136,7 @@ lines_print laws width s before e (first ∷ lines) commands none f is few w =
     let text = parts.text in
     let of_text = laws.of_text e first text parts.text_written in
     let shown = shows laws s before e first text f is parts.text_written in
-    let fit = row_fits width s (typed before text) shown.in_style (subst (λ n. n ≤ columns_of width s.font s.width) (sym shown.one_each) few.0) in
+    let fit = row_fits width s (typed before text) shown.in_style (subst (λ n. n ≤ columns_of width s) (sym shown.one_each) few.0) in
     let p = line_prints laws width s before text of_text none fit in
     let there : List Command = before ++ (text ++ LineFeed ∷ []) in
     let tables : table_after (style before).table text ≡ table_after e.table text = ap (λ n. table_after n text) (sym f.table) in
@@ -152,7 +152,7 @@ lines_print laws width s before e (first ∷ lines) commands none f is few w =
     (lines_print laws width s there (in_force_after e text) lines parts.rest p.empties then_force then_set few.1 parts.rest_written))
 
 pub printed_lines : LawsBelow → (width : ℕ) (before : List Command) (e : Encoding) (lines : List (List ℕ)) (commands : List Command)
-    → line width before ≡ [] → IsInForce before e → AllByRecursion (λ text. length text ≤ columns_of width (style before).font (style before).width) lines
+    → line width before ≡ [] → IsInForce before e → AllByRecursion (λ text. length text ≤ columns_of width (style before)) lines
     → lines_written e lines ≡ Ok commands → PrintsLines width before commands e lines
 printed_lines laws width before e lines commands none f few w =
     let p = lines_print laws width (style before) before e lines commands none f refl few w in

@@ -1,10 +1,13 @@
 -- Worked rows, computed from the definitions alone.
-use Rattle.std.proofs.Common.{◌≡◌, [], ◌∷◌, refl, None, Ok, Err}
+use Rattle.std.proofs.Common.{◌≡◌, ℕ, [], ◌∷◌, refl, None, Ok, Err}
 use Rattle.std.specs.Prelude.{codes}
 use Rattle.escpos_command.specs.declared.command.Command.TheVariants.{Char, LineFeed}
 use Rattle.escpos_command.specs.CommandTable.{set_to}
 use Rattle.escpos_command.specs.declared.setting.SettingKind.TheVariants as sets
+use Rattle.escpos_command.specs.declared.parameter.choices.FontFace.{FontFace}
 use Rattle.escpos_command.specs.declared.parameter.choices.FontFace.TheVariants.{A, B}
+use Rattle.escpos_paper.specs.declared.style.Style.{Style}
+use Rattle.escpos_paper.specs.Styles.{power_on}
 use Rattle.escpos_text.specs.declared.encoding.Encoding.{Encoding}
 use Rattle.escpos_text.specs.declared.encoding.TextFault.TheVariants.{NoCharacter}
 use Rattle.escpos_text.specs.CodeTables.{code_tables, characters_of}
@@ -20,12 +23,15 @@ use Rattle.escpos_layout.specs.Writing.{lines_written}
 
 -- ## How many characters a line has
 
+sized : FontFace → ℕ → Style
+sized font width = record power_on { font = font; width = width }
+
 -- 512 dots have 42 characters of font A and 56 of font B, and half as many at twice the width; 384 dots have 32 of font A.
-columns : columns_of 512 A 1 ∷ columns_of 512 B 1 ∷ columns_of 512 A 2 ∷ columns_of 384 A 1 ∷ [] ≡ 42 ∷ 56 ∷ 21 ∷ 32 ∷ []
+columns : columns_of 512 (sized A 1) ∷ columns_of 512 (sized B 1) ∷ columns_of 512 (sized A 2) ∷ columns_of 384 (sized A 1) ∷ [] ≡ 42 ∷ 56 ∷ 21 ∷ 32 ∷ []
 columns = refl
 
 -- A character wider than the line has a row of its own.
-wide_character : columns_of 50 A 8 ∷ columns_of 1 B 1 ∷ [] ≡ 1 ∷ 1 ∷ []
+wide_character : columns_of 50 (sized A 8) ∷ columns_of 1 (sized B 1) ∷ [] ≡ 1 ∷ 1 ∷ []
 wide_character = refl
 
 -- ## Wrapped text

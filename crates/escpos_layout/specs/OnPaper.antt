@@ -7,7 +7,7 @@ use Rattle.escpos_paper.specs.declared.item.Item.{Item}
 use Rattle.escpos_paper.specs.declared.item.Item.TheVariants.{Feed}
 use Rattle.escpos_paper.specs.declared.style.LineStyle.{LineStyle}
 use Rattle.escpos_paper.specs.declared.style.Style.{Style}
-use Rattle.escpos_paper.specs.Cells.{dots, face_dots}
+use Rattle.escpos_paper.specs.Cells.{dots, style_dots}
 use Rattle.escpos_paper.specs.Printed.{printed, row_of}
 use Rattle.escpos_paper.specs.Rows.{line}
 use Rattle.escpos_paper.specs.Styles.{style, line_style}
@@ -64,4 +64,4 @@ pub record IsInForce (before : List Command) (e : Encoding) : Type 0 where
 
 -- A row of cells in a style ends less than one of its characters before the end of the line.
 abbrev pub EndsAtLineEnd : ℕ → Style → List Cell → Type 0
-EndsAtLineEnd width s row = width < dots row + face_dots s.font * s.width
+EndsAtLineEnd width s row = width < dots row + style_dots s

@@ -4,7 +4,7 @@ ghost use Rattle.std.specs.Prelude.{◌≡◌, ◌≤◌, ℕ};
 ghost use Rattle.std.specs.Option.{SomeIff};
 ghost use Rattle.escpos_layout.specs.Columns.{columns_of};
 
-use escpos_command::{FontFace, LineWidth};
+use escpos_command::LineWidth;
 use escpos_paper::Style;
 use std::marker::Model;
 
@@ -38,15 +38,10 @@ impl Columns {
         }
     }
 
-    /// How many characters of a font a line of this width has, at so many times their width. (At 0 times it has 1.)
-    pub fn of(width: LineWidth, font: FontFace, times: u8) -> Self
-        ensures { result ≡ columns_of width font times }
+    /// How many characters of this style a line of this width has.
+    pub fn of(width: LineWidth, style: &Style) -> Self
+        ensures { result ≡ columns_of width style.now }
     {
-        let style = Style {
-            font,
-            width: times,
-            ..Style::power_on()
-        };
         match (width.dots() as usize).checked_div(style.dots()) {
             Some(count) if count >= 1 => Columns { count },
             _ => Columns { count: 1 },

@@ -23,7 +23,7 @@ ghost use Rattle.escpos_layout.specs.declared.row.Field.{Field as TheField};
 pub fn printed_lines()
     ensures { (width : ℕ) (before : List Command) (encoding : Encoding) (lines : List (List ℕ)) (commands : List Command)
         → line width before ≡ [] → IsInForce before encoding
-        → AllByRecursion (λ text. length text ≤ columns_of width (style before).font (style before).width) lines
+        → AllByRecursion (λ text. length text ≤ columns_of width (style before)) lines
         → lines_written encoding lines ≡ Ok commands → PrintsLines width before commands encoding lines }
 {
     escpos_text::laws::read_back();
@@ -52,9 +52,9 @@ pub fn pair_sides()
 /// before the end of the line; so does one that shows a line with text at its end.
 pub fn full_lines()
     ensures row { (width : ℕ) (before : List Command) (row : List Cell) → AllByRecursion (HasStyle (style before)) row
-        → length row ≡ columns_of width (style before).font (style before).width → EndsAtLineEnd width (style before) row }
+        → length row ≡ columns_of width (style before) → EndsAtLineEnd width (style before) row }
     ensures line { (width : ℕ) (before : List Command) (encoding : Encoding) (text whole : List ℕ) (row : List Cell)
-        → EndsWith (columns_of width (style before).font (style before).width) text whole → Shows encoding (style before) whole row
+        → EndsWith (columns_of width (style before)) text whole → Shows encoding (style before) whole row
         → EndsAtLineEnd width (style before) row }
 {
     escpos_paper::laws::character_widths();

@@ -4,6 +4,7 @@ use crate::{
     Characters, Columns, Field, Side, fits_line, write_pair, write_row, write_rule, write_wrapped,
 };
 use escpos_command::{FontFace, LineWidth};
+use escpos_paper::Style;
 use escpos_text::{Choice, Encoding, TextFault};
 use std::test::Fail;
 
@@ -52,14 +53,23 @@ fn expect_wrapped(rt: &HostRuntime, count: usize, text: &str, wanted: &[u8]) -> 
     expect(out.as_slice(), wanted)
 }
 
+// The style of a printer just switched on, with this font and width.
+fn sized(font: FontFace, width: u8) -> Style {
+    Style {
+        font,
+        width,
+        ..Style::power_on()
+    }
+}
+
 #[test]
 fn columns(rt: HostRuntime) -> Result<(), Fail> {
     let wide = LineWidth::usual();
     let narrow = LineWidth::new(50).ok_or("no width")?;
-    assert_eq!(rt; Columns::of(wide, FontFace::A, 1).count(), 42);
-    assert_eq!(rt; Columns::of(wide, FontFace::B, 1).count(), 56);
-    assert_eq!(rt; Columns::of(wide, FontFace::A, 2).count(), 21);
-    assert_eq!(rt; Columns::of(narrow, FontFace::A, 8).count(), 1);
+    assert_eq!(rt; Columns::of(wide, &sized(FontFace::A, 1)).count(), 42);
+    assert_eq!(rt; Columns::of(wide, &sized(FontFace::B, 1)).count(), 56);
+    assert_eq!(rt; Columns::of(wide, &sized(FontFace::A, 2)).count(), 21);
+    assert_eq!(rt; Columns::of(narrow, &sized(FontFace::A, 8)).count(), 1);
     assert!(rt; Columns::new(0).is_none());
     Ok(())
 }

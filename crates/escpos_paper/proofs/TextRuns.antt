@@ -10,33 +10,33 @@ use Rattle.escpos_command.specs.declared.parameter.choices.FontFace.{FontFace}
 use Rattle.escpos_command.specs.declared.parameter.choices.FontFace.TheVariants.{A, B}
 use Rattle.escpos_paper.specs.declared.cell.Cell.{Cell}
 use Rattle.escpos_paper.specs.declared.style.Style.{Style}
-use Rattle.escpos_paper.specs.Cells.{cell, cell_dots, dots, face_dots}
+use Rattle.escpos_paper.specs.Cells.{cell, cell_dots, dots, face_dots, style_dots}
 use Rattle.escpos_paper.specs.Rows.{fits}
 use Rattle.escpos_paper.specs.Styles.{is_empty}
 use Rattle.escpos_paper.proofs.Fits.{fit_means, one_fits, narrow_fits, too_wide}
 
 -- How wide they are together.
-pub dots_of_text : (s : Style) (bs : List ℕ) → dots (map (cell s) bs) ≡ length bs * (face_dots s.font * s.width)
+pub dots_of_text : (s : Style) (bs : List ℕ) → dots (map (cell s) bs) ≡ length bs * style_dots s
 dots_of_text s [] = omega arith
 dots_of_text s (b ∷ bs) = let rest = dots_of_text s bs in omega (arith, rest, sum_by-cons cell_dots (cell s b) (map (cell s) bs))
 
-pub dots_with_text : (s : Style) (row : List Cell) (bs : List ℕ) → dots (row ++ map (cell s) bs) ≡ dots row + length bs * (face_dots s.font * s.width)
+pub dots_with_text : (s : Style) (row : List Cell) (bs : List ℕ) → dots (row ++ map (cell s) bs) ≡ dots row + length bs * style_dots s
 dots_with_text s row bs = sum_by-append cell_dots row (map (cell s) bs) ∙ ap (λ n. dots row + n) (dots_of_text s bs)
 
 -- At least one, and as many as the room that is left, divided by their width, fit.
-pub text_fits : (w : ℕ) (s : Style) (row : List Cell) (bs : List ℕ) → 1 ≤ face_dots s.font * s.width → 1 ≤ length bs
-    → length bs ≤ (w - dots row) / (face_dots s.font * s.width) → IsTrue (fits w (row ++ map (cell s) bs))
+pub text_fits : (w : ℕ) (s : Style) (row : List Cell) (bs : List ℕ) → 1 ≤ style_dots s → 1 ≤ length bs
+    → length bs ≤ (w - dots row) / style_dots s → IsTrue (fits w (row ++ map (cell s) bs))
 text_fits w s row bs wide some few =
-    let room : length bs * (face_dots s.font * s.width) ≤ w - dots row = (le-div_iff_mul-le wide).0 few in
-    let least : 1 ≤ length bs * (face_dots s.font * s.width) = mul-le-mul some wide in
+    let room : length bs * style_dots s ≤ w - dots row = (le-div_iff_mul-le wide).0 few in
+    let least : 1 ≤ length bs * style_dots s = mul-le-mul some wide in
     narrow_fits w _ (omega (arith, dots_with_text s row bs))
 
 -- If that is none, not one more fits after others.
-pub none_fits : (w : ℕ) (s : Style) (row : List Cell) (b : ℕ) → 1 ≤ face_dots s.font * s.width → is_empty row ≡ false
-    → (w - dots row) / (face_dots s.font * s.width) ≡ 0 → IsFalse (fits w (row ++ cell s b ∷ []))
+pub none_fits : (w : ℕ) (s : Style) (row : List Cell) (b : ℕ) → 1 ≤ style_dots s → is_empty row ≡ false
+    → (w - dots row) / style_dots s ≡ 0 → IsFalse (fits w (row ++ cell s b ∷ []))
 none_fits w s [] b wide others none = absurd cc
 none_fits w s (x ∷ row) b wide others none =
-    let width = face_dots s.font * s.width in
+    let width = style_dots s in
     let one = dots_with_text s (x ∷ row) (b ∷ []) in
     let many : 1 < length ((x ∷ row) ++ cell s b ∷ []) = omega (arith, length-append row (cell s b ∷ [])) in
     elim (cases_lt (w - dots (x ∷ row)) width) [
@@ -76,8 +76,8 @@ wide_at : (face : FontFace) → 9 ≤ face_dots face
 wide_at A = omega arith
 wide_at B = omega arith
 
-pub wide_face : (s : Style) → 1 ≤ s.width → 9 ≤ face_dots s.font * s.width
+pub wide_face : (s : Style) → 1 ≤ s.width → 9 ≤ style_dots s
 wide_face s wide = mul-le-mul (wide_at s.font) wide
 
-pub wide_text : (s : Style) (n : ℕ) → 1 ≤ s.width → 9 * n ≤ (face_dots s.font * s.width) * n
+pub wide_text : (s : Style) (n : ℕ) → 1 ≤ s.width → 9 * n ≤ style_dots s * n
 wide_text s n wide = mul-le-mul_right n (wide_face s wide)

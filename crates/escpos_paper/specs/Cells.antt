@@ -25,8 +25,12 @@ abbrev pub face_dots : FontFace → ℕ
 face_dots A = 12
 face_dots B = 9
 
+-- How wide a character in a style is.
+abbrev pub style_dots : Style → ℕ
+style_dots s = face_dots s.font * s.width
+
 abbrev pub cell_dots : Cell → ℕ
-cell_dots x = face_dots x.style.font * x.style.width
+cell_dots x = style_dots x.style
 
 abbrev pub dots : List Cell → ℕ
 dots row = sum_by cell_dots row

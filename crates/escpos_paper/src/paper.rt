@@ -1,7 +1,7 @@
 //! What one command does to the paper, the settings and the line.
 //!
 //! `Paper::carry_out` has an arm for every kind of command, and is the only function of this crate that has; `Paper::set` has one
-//! for every kind of setting. `page` makes room for the items first, so nothing here can fail.
+//! for each setting of lines and barcodes, and `Style::after` for each of characters. `page` makes room for the items first, so nothing here can fail.
 
 ghost use Rattle.std.specs.Prelude.{◌≡◌, ◌+◌, ◌≤◌, ℕ, IsTrue, [], ◌∷◌, ◌++◌, length, map, take, if◌then◌else◌, None, true, vec_len, vec_capacity};
 ghost use Rattle.escpos_command.specs.declared.command.Command.TheVariants as kind;
@@ -22,9 +22,7 @@ use crate::item::Item;
 use crate::print_buffer::PrintBuffer;
 use crate::qr_store::QrStore;
 use crate::style::{LineStyle, Settings, Style};
-use escpos_command::{
-    Command, Cut, LineWidth, SettingKind, choice, face_of, has_bit, hri_position_of,
-};
+use escpos_command::{Command, Cut, LineWidth, SettingKind, choice, face_of, hri_position_of};
 use std::alloc::Global;
 
 /// The most items that one command prints: a row, a feed and a barcode, a raster, a QR code or a cut.
@@ -137,15 +135,6 @@ impl Paper {
     {
         let value = parameter.unwrap_or(0);
         match kind {
-            SettingKind::Mode => self.settings.text = self.settings.text.in_mode(value),
-            SettingKind::Size => self.settings.text = self.settings.text.in_size(value),
-            SettingKind::Table => self.settings.text.table = value,
-            SettingKind::Font => self.settings.text.font = face_of(choice(value)),
-            SettingKind::Emphasis => self.settings.text.bold = has_bit(value, 0),
-            SettingKind::Underline => self.settings.text.underline = choice(value),
-            SettingKind::DoubleStrike => self.settings.text.strike = has_bit(value, 0),
-            SettingKind::Reverse => self.settings.text.reverse = has_bit(value, 0),
-            SettingKind::CharacterSet => self.settings.text.character_set = value,
             SettingKind::Align => {
                 self.settings.lines = self.settings.lines.aligned(self.line.is_empty(), value);
             }
@@ -158,14 +147,7 @@ impl Paper {
             SettingKind::BarWidth => self.settings.bars.module_width = value,
             SettingKind::HriPlace => self.settings.bars.place = hri_position_of(choice(value)),
             SettingKind::HriFont => self.settings.bars.hri_font = face_of(choice(value)),
-            SettingKind::Smoothing
-            | SettingKind::Unidirectional
-            | SettingKind::Home
-            | SettingKind::Devices
-            | SettingKind::EndSensors
-            | SettingKind::StopSensors
-            | SettingKind::PanelButtons
-            | SettingKind::KanjiOff => {}
+            _ => self.settings.text = self.settings.text.after(kind, parameter),
         }
     }
 

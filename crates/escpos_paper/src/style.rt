@@ -1,17 +1,17 @@
 //! The settings: how characters, barcodes, lines and QR codes are printed. What each command does to them is left to `paper`, but for
 //! those that set more than one attribute and those that are ignored in mid-line.
 
-ghost use Rattle.std.specs.Prelude.{◌≡◌, ◌↔◌, ◌*◌, ◌≤◌, IsTrue, Some};
-ghost use Rattle.escpos_command.specs.declared.command.Command.TheVariants as kind;
+ghost use Rattle.std.specs.Prelude.{◌≡◌, ◌↔◌, ◌≤◌, IsTrue, Some};
+ghost use Rattle.escpos_command.specs.declared.command.Command.TheVariants as command;
 ghost use Rattle.escpos_command.specs.declared.setting.SettingKind.TheVariants as sets;
 ghost use Rattle.escpos_paper.specs.Styles.{power_on, power_on_settings, same_style, style_after};
-ghost use Rattle.escpos_paper.specs.Cells.{cell, face_dots};
+ghost use Rattle.escpos_paper.specs.Cells.{cell, style_dots};
 ghost use Rattle.escpos_paper.specs.Steps.{line_style_after};
 
 use crate::cell::{Cell, face_dots};
 use escpos_command::{
-    Alignment, Correction, FontFace, HriPosition, alignment_of, choice, face_of_mode, has_bit,
-    magnified, size_height, size_width, underline_of_mode,
+    Alignment, Correction, FontFace, HriPosition, SettingKind, alignment_of, choice, face_of,
+    face_of_mode, has_bit, magnified, size_height, size_width, underline_of_mode,
 };
 
 /// How a printer prints characters, barcodes, lines and QR codes, as commands have set it. Init (ESC @) restores the power-on value of
@@ -95,7 +95,7 @@ impl Style {
 
     /// How wide a character in this style is, in dots.
     pub fn dots(&self) -> usize
-        ensures value { result ≡ face_dots self.now.font * self.now.width }
+        ensures value { result ≡ style_dots self.now }
         ensures small { result ≤ 3060 }
     {
         face_dots(self.font) * self.width as usize
@@ -126,9 +126,49 @@ impl Style {
             & (self.character_set == other.character_set)
     }
 
+    /// The style after a setting of this kind with this parameter. One that sets nothing of a character leaves it.
+    pub fn after(self, kind: SettingKind, parameter: Option<u8>) -> Self
+        ensures { result ≡ style_after self (command.Set (kind, parameter)) }
+    {
+        let value = parameter.unwrap_or(0);
+        match kind {
+            SettingKind::Mode => self.in_mode(value),
+            SettingKind::Size => self.in_size(value),
+            SettingKind::Table => Style {
+                table: value,
+                ..self
+            },
+            SettingKind::Font => Style {
+                font: face_of(choice(value)),
+                ..self
+            },
+            SettingKind::Emphasis => Style {
+                bold: has_bit(value, 0),
+                ..self
+            },
+            SettingKind::Underline => Style {
+                underline: choice(value),
+                ..self
+            },
+            SettingKind::DoubleStrike => Style {
+                strike: has_bit(value, 0),
+                ..self
+            },
+            SettingKind::Reverse => Style {
+                reverse: has_bit(value, 0),
+                ..self
+            },
+            SettingKind::CharacterSet => Style {
+                character_set: value,
+                ..self
+            },
+            _ => self,
+        }
+    }
+
     // The style after ESC !, which sets font, size, emphasis and underline.
-    pub(crate) fn in_mode(self, mode: u8) -> Self
-        ensures { result ≡ style_after self (kind.Set (sets.Mode, Some mode)) }
+    fn in_mode(self, mode: u8) -> Self
+        ensures { result ≡ style_after self (command.Set (sets.Mode, Some mode)) }
     {
         Style {
             font: face_of_mode(mode),
@@ -141,8 +181,8 @@ impl Style {
     }
 
     // The style after GS !, which sets width and height.
-    pub(crate) fn in_size(self, size: u8) -> Self
-        ensures { result ≡ style_after self (kind.Set (sets.Size, Some size)) }
+    fn in_size(self, size: u8) -> Self
+        ensures { result ≡ style_after self (command.Set (sets.Size, Some size)) }
     {
         Style {
             width: size_width(size),
@@ -166,7 +206,7 @@ pub struct LineStyle {
 impl LineStyle {
     // After ESC a, which is ignored if the line has text.
     pub(crate) fn aligned(self, is_line_empty: bool, align: u8) -> Self
-        ensures { result ≡ line_style_after is_line_empty self (kind.Set (sets.Align, Some align)) }
+        ensures { result ≡ line_style_after is_line_empty self (command.Set (sets.Align, Some align)) }
     {
         if is_line_empty {
             LineStyle {
@@ -180,7 +220,7 @@ impl LineStyle {
 
     // After ESC {, which is ignored if the line has text.
     pub(crate) fn turned(self, is_line_empty: bool, upside_down: u8) -> Self
-        ensures { result ≡ line_style_after is_line_empty self (kind.Set (sets.UpsideDown, Some upside_down)) }
+        ensures { result ≡ line_style_after is_line_empty self (command.Set (sets.UpsideDown, Some upside_down)) }
     {
         if is_line_empty {
             LineStyle {

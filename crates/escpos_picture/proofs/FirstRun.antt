@@ -8,7 +8,7 @@ use Rattle.std.proofs.lemmas.Bool.Decides.{nat_tests}
 use Rattle.escpos_paper.specs.declared.cell.Cell.{Cell}
 use Rattle.escpos_paper.specs.declared.style.Style.{Style}
 use Rattle.escpos_paper.specs.Styles.{same_style}
-use Rattle.escpos_paper.specs.Cells.{face_dots}
+use Rattle.escpos_paper.specs.Cells.{style_dots}
 use Rattle.escpos_picture.specs.Rows.{Run, run, runs, run_drawing, runs_drawing, bytes_of, same_count, with_before}
 
 -- The first cell and those that are counted after it are the first run.
@@ -43,12 +43,12 @@ first_run_of (x ∷ xs) d some =
 -- What is drawn after one more run: the runs after it stand so many dots further on.
 pub drawn_on : (kept : List ℕ) (x : ℕ) (s : Style) (cells : List Cell) (rs : List Run)
     → kept ++ runs_drawing x (run s (bytes_of cells) ∷ rs)
-    ≡ (kept ++ run_drawing x (run s (bytes_of cells))) ++ runs_drawing (x + face_dots s.font * s.width * length cells) rs
+    ≡ (kept ++ run_drawing x (run s (bytes_of cells))) ++ runs_drawing (x + style_dots s * length cells) rs
 unfolding runs_drawing
 drawn_on kept x s cells rs =
     let count : length (bytes_of cells) ≡ length cells = length-map cells (λ (c : Cell). c.byte) in
-    sym (append_assoc kept (run_drawing x (run s (bytes_of cells))) (runs_drawing (x + face_dots s.font * s.width * length (bytes_of cells)) rs))
-    ∙ ap (λ n. (kept ++ run_drawing x (run s (bytes_of cells))) ++ runs_drawing (x + face_dots s.font * s.width * n) rs) count
+    sym (append_assoc kept (run_drawing x (run s (bytes_of cells))) (runs_drawing (x + style_dots s * length (bytes_of cells)) rs))
+    ∙ ap (λ n. (kept ++ run_drawing x (run s (bytes_of cells))) ++ runs_drawing (x + style_dots s * n) rs) count
 
 some_left : (n : ℕ) → (suc n == 0) ≡ true → ⊥
 some_left n e = grind (arith, nat_tests)

@@ -5,7 +5,7 @@ use Rattle.escpos_command.specs.declared.parameter.choices.FontFace.{FontFace}
 use Rattle.escpos_paper.specs.declared.cell.Cell.{Cell}
 use Rattle.escpos_paper.specs.declared.style.Style.{Style}
 use Rattle.escpos_paper.specs.Styles.{same_style}
-use Rattle.escpos_paper.specs.Cells.{face_dots}
+use Rattle.escpos_paper.specs.Cells.{face_dots, style_dots}
 use Rattle.escpos_picture.specs.Characters.{byte_text}
 use Rattle.escpos_picture.specs.Numbers.{quarters}
 use Rattle.escpos_picture.specs.Places.{face_height}
@@ -33,7 +33,7 @@ bytes_of cells = map (λ (x : Cell). x.byte) cells
 
 -- How wide a run is.
 abbrev pub run_dots : Run → ℕ
-run_dots r = face_dots r.style.font * r.style.width * length r.bytes
+run_dots r = style_dots r.style * length r.bytes
 
 -- A style that isn't scaled.
 abbrev pub is_plain_size : Style → Bool

@@ -109,12 +109,7 @@ fn append_label_tag(gather: &mut Gather, face: FontFace, width: usize, base: usi
     gather.extend(b"<text class=\"");
     gather.extend(label_class(face));
     append_label_place(gather, width, base);
-    append_between(
-        gather,
-        b"\" textLength=\"",
-        face_dots(face) * count,
-        b"\">",
-    );
+    append_between(gather, b"\" textLength=\"", face_dots(face) * count, b"\">");
 }
 
 // Appends the place of a line of text.

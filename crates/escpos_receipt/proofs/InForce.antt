@@ -12,12 +12,12 @@ use Rattle.escpos_command.specs.declared.command.Command.TheVariants.{Init, QrPr
 use Rattle.escpos_command.proofs.Lines.{text-snoc}
 use Rattle.escpos_command.proofs.Settings.{stored-snoc}
 use Rattle.escpos_receipt.specs.Whole.{has_text, is_nonempty}
-use Rattle.escpos_paper.specs.Styles.{set_after, sets_character_set, sets_table, style}
+use Rattle.escpos_paper.specs.Styles.{power_on, set_after, sets_character_set, sets_table, style, style_after}
 use Rattle.escpos_paper.specs.declared.style.Style.{Style}
 use Rattle.escpos_paper.proofs.OneMore.{style-snoc}
 use Rattle.escpos_text.specs.Choices.{usual_tables}
 use Rattle.escpos_receipt.specs.declared.options.ReceiptOptions.{ReceiptOptions}
-use Rattle.escpos_receipt.specs.Entries.{chosen_by, encoding_for, in_force, line_state}
+use Rattle.escpos_receipt.specs.Entries.{at_table, chosen_by, encoding_for, in_force, line_state}
 use Rattle.escpos_receipt.specs.EntryCommands.{encoding_after, ends_where, force_after, line_after, line_step, stored_after, value_after}
 
 -- ## Commands
@@ -76,11 +76,12 @@ stored_as o c = refl
 
 line_one : (options : ReceiptOptions) (cs : List Command) (c : Command) → line_state options (cs ++ c ∷ []) ≡ line_step (line_state options cs) c
 line_one options cs c =
-    let s = style-snoc cs c in
+    let s : at_table power_on.table (style (cs ++ c ∷ [])) ≡ at_table power_on.table (style_after (at_table power_on.table (style cs)) c) =
+    ap (at_table power_on.table) (style-snoc cs c) in
     let text = ap is_nonempty (text-snoc cs c) ∙ flag_of (ends_line cs c) (text cs) (characters c)
     ∙ ap (λ b. is_nonempty (characters c) || has_text cs && not b) (ends_as cs c) in
     let kept = ap is_some (stored-snoc cs c) ∙ stored_as (stored cs) c in
-    cc (ap (λ (t : Style). t.font) s, ap (λ (t : Style). t.width) s, text, kept)
+    cc (s, text, kept)
 
 line_from : (options : ReceiptOptions) (cs part : List Command) → line_state options (cs ++ part) ≡ line_after (line_state options cs) part
 line_from options cs [] = ap (line_state options) (append-nil cs)

@@ -33,7 +33,7 @@ use Rattle.escpos_receipt.proofs.Following.{line_flag}
 pub record Laws : Type 0 where
   pub printed : (width : ℕ) (before : List Command) (encoding : Encoding) (lines : List (List ℕ)) (commands : List Command)
       → line width before ≡ [] → IsInForce before encoding
-      → AllByRecursion (λ text. length text ≤ columns_of width (style before).font (style before).width) lines
+      → AllByRecursion (λ text. length text ≤ columns_of width (style before)) lines
       → lines_written encoding lines ≡ Ok commands → PrintsLines width before commands encoding lines
   pub wrapped : (columns : ℕ) (text : List ℕ) → AreNarrow columns (wrap columns text)
   pub pairs : (columns : ℕ) (left right : List ℕ) → AreNarrow columns (pair columns left right)
@@ -111,7 +111,7 @@ written_lines b (Ok cs) part e =
 written_lines b (Err why) part e = absurd cc
 
 lines_print : Laws → (options : ReceiptOptions) (earlier : List Data) (before part : List Command) (lines : List (List ℕ))
-    → AreNarrow (columns_of options.width (style before).font (style before).width) lines
+    → AreNarrow (columns_of options.width (style before)) lines
     → laid_out (in_force options earlier before) (Some lines) ≡ Ok part → LaysOut options before part (encoding_for options earlier before) lines
 lines_print laws options earlier before part lines few means =
     let e = encoding_for options earlier before in
@@ -123,12 +123,12 @@ lines_print laws options earlier before part lines few means =
       ended = joined;
       prints = laws.printed options.width start e lines cs (no_line options.width before)
           (record { set = ap (λ (s : Style). s.character_set) (sym same); table = ap (λ (s : Style). s.table) (sym same) })
-          (subst (λ (s : Style). AllByRecursion (λ text. length text ≤ columns_of options.width s.font s.width) lines) (sym same) few) is;
+          (subst (λ (s : Style). AllByRecursion (λ text. length text ≤ columns_of options.width s) lines) (sym same) few) is;
     }
 
 at_lines : Laws → (options : ReceiptOptions) (earlier : List Data) (before part : List Command) (m : Member) (v : Data) (lines : List (List ℕ))
-    → laid_out (in_force options earlier before) (lines_of (columns_of options.width (style before).font (style before).width) m v) ≡ Ok part
-    → lines_of (columns_of options.width (style before).font (style before).width) m v ≡ Some lines
+    → laid_out (in_force options earlier before) (lines_of (columns_of options.width (style before)) m v) ≡ Ok part
+    → lines_of (columns_of options.width (style before)) m v ≡ Some lines
     → LaysOut options before part (encoding_for options earlier before) lines
 at_lines laws options earlier before part m v lines means is =
     lines_print laws options earlier before part lines (narrow laws _ m v lines is) (ap (laid_out (in_force options earlier before)) (sym is) ∙ means)

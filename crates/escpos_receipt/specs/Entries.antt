@@ -21,7 +21,8 @@ use Rattle.escpos_command.specs.QrCodes.{is_qr_data}
 use Rattle.escpos_command.specs.Rasters.{picture, is_raster, widest, highest}
 use Rattle.escpos_command.specs.Settings.{last_or, stored}
 use Rattle.escpos_command.specs.Text.{is_some}
-use Rattle.escpos_paper.specs.Styles.{style}
+use Rattle.escpos_paper.specs.declared.style.Style.{Style}
+use Rattle.escpos_paper.specs.Styles.{power_on, style}
 use Rattle.escpos_text.specs.declared.encoding.Encoding.{Encoding}
 use Rattle.escpos_text.specs.declared.encoding.TextFault.{TextFault}
 use Rattle.escpos_text.specs.declared.encoding.TextFault.TheVariants as cannot
@@ -238,7 +239,7 @@ with_line_feed (Err e) = Err e
 
 -- How many characters a line has.
 abbrev pub columns_in : LineState → ℕ
-columns_in l = columns_of l.width l.font l.times
+columns_in l = columns_of l.width l.style
 
 -- A string in its composed form.
 abbrev pub composed_in : Data → Option (List ℕ)
@@ -404,12 +405,15 @@ encoding_for options earlier before = record {
   replacement = options.replacement;
 }
 
--- What a line is like after these commands: font and width of its characters, and whether text is in it.
+-- A style with another code table. Which table is in force is the encoding's to say; what a line is like doesn't depend on it.
+abbrev pub at_table : ℕ → Style → Style
+at_table table s = record s { table = table }
+
+-- What a line is like after these commands: the style of its characters, but for their code table, and whether text is in it.
 abbrev pub line_state : ReceiptOptions → List Command → LineState
 line_state options before = record {
   width = options.width;
-  font = (style before).font;
-  times = (style before).width;
+  style = at_table power_on.table (style before);
   in_line = has_text before;
   stored = is_some (stored before);
 }

@@ -12,8 +12,8 @@ use Rattle.escpos_receipt.specs.declared.entry.Entry.{Entry}
 use Rattle.escpos_receipt.specs.declared.entry.Entry.TheVariants as entry
 use Rattle.escpos_receipt.specs.declared.entry.Meaning.{Meaning}
 use Rattle.escpos_receipt.specs.declared.entry.Meaning.TheVariants as means
-use Rattle.escpos_receipt.specs.Entries.{chosen_by, names_tables, qr_commands}
-use Rattle.escpos_paper.specs.Styles.{power_on, set_after, sets_character_set, sets_font, sets_table, sets_width}
+use Rattle.escpos_receipt.specs.Entries.{at_table, chosen_by, names_tables, qr_commands}
+use Rattle.escpos_paper.specs.Styles.{power_on, set_after, sets_character_set, sets_table, style_after}
 use Rattle.escpos_command.specs.Text.{characters, ends_text}
 use Rattle.escpos_text.specs.Choices.{usual_tables}
 use Rattle.escpos_receipt.specs.declared.in_force.InForce.{InForce}
@@ -71,8 +71,7 @@ stored_after stored c = stored
 abbrev pub line_step : LineState → Command → LineState
 line_step l c = record {
   width = l.width;
-  font = set_after sets_font power_on.font l.font c;
-  times = set_after sets_width power_on.width l.times c;
+  style = at_table l.style.table (style_after l.style c);
   in_line = is_nonempty (characters c) || l.in_line && not (ends_where l.stored c);
   stored = stored_after l.stored c;
 }
@@ -93,7 +92,7 @@ force_after_member f m v cs = record { encoding = after_member f.encoding m v cs
 abbrev pub start_of : ℕ → Option ℕ → InForce
 start_of width replacement = record {
   encoding = record { set = power_on.character_set; table = power_on.table; choice = usual_tables; replacement = replacement };
-  line = record { width = width; font = power_on.font; times = power_on.width; in_line = false; stored = false };
+  line = record { width = width; style = power_on; in_line = false; stored = false };
 }
 
 -- The text is this value in JSON.

@@ -1,15 +1,12 @@
 //! What is in force where an entry of a receipt's text stands: how texts are written, and what a line is like.
 
 ghost use Rattle.std.specs.Prelude.{◌≡◌, ◌∷◌, ◌++◌, [], ℕ, List};
-ghost use Rattle.escpos_command.specs.declared.command.Command.TheVariants.{LineFeed, Set};
+ghost use Rattle.escpos_command.specs.declared.command.Command.TheVariants.{LineFeed};
 ghost use Rattle.escpos_receipt.specs.Entries.{columns_in, qr_commands};
 ghost use Rattle.escpos_receipt.specs.EntryCommands.{line_after, line_step, start_of};
 
 use crate::spelled_text::SpelledText;
-use escpos_command::{
-    Command, FontFace, LineWidth, SettingKind, choice, face_of, face_of_mode, has_bit, magnified,
-    size_width,
-};
+use escpos_command::{Command, LineWidth};
 use escpos_layout::Columns;
 use escpos_paper::Style;
 use escpos_text::{Encoding, Replacement};
@@ -28,10 +25,8 @@ pub struct InForce {
 pub struct LineState {
     /// The dots of a line.
     pub width: LineWidth,
-    /// The font that is set.
-    pub font: FontFace,
-    /// How many times as wide as the font its characters are, 1 to 8.
-    pub times: u8,
+    /// How its characters are printed, but for their code table, which the encoding has.
+    pub style: Style,
     /// Whether there is text in the line.
     pub in_line: bool,
     /// Whether data of QR codes are stored: only then does a print of them end the line.
@@ -45,13 +40,11 @@ impl InForce {
     {
         let mut encoding = Encoding::new();
         encoding.replacement = replacement;
-        let style = Style::power_on();
         InForce {
             encoding,
             line: LineState {
                 width,
-                font: style.font,
-                times: style.width,
+                style: Style::power_on(),
                 in_line: false,
                 stored: false,
             },
@@ -64,7 +57,7 @@ impl LineState {
     pub fn columns(&self) -> Columns
         ensures { result ≡ columns_in self.now }
     {
-        Columns::of(self.width, self.font, self.times)
+        Columns::of(self.width, &self.style)
     }
 
     /// After a command.
@@ -73,33 +66,23 @@ impl LineState {
     {
         let in_line = self.leaves_text(command);
         match command {
-            Command::Set(setting) => self.set(setting.kind(), setting.parameter()),
+            Command::Set(setting) => {
+                self.style = Style {
+                    table: self.style.table,
+                    ..self.style.after(setting.kind(), setting.parameter())
+                };
+            }
             Command::QrStore(_) => self.stored = true,
             Command::Init => {
-                let style = Style::power_on();
-                self.font = style.font;
-                self.times = style.width;
+                self.style = Style {
+                    table: self.style.table,
+                    ..Style::power_on()
+                };
                 self.stored = false;
             }
             _ => {}
         }
         self.in_line = in_line;
-    }
-
-    // After a setting of this kind with this parameter.
-    fn set(&mut self, kind: SettingKind, parameter: Option<u8>)
-        ensures { self.new ≡ line_step self.old (Set (kind, parameter)) }
-    {
-        let value = parameter.unwrap_or(0);
-        match kind {
-            SettingKind::Font => self.font = face_of(choice(value)),
-            SettingKind::Mode => {
-                self.font = face_of_mode(value);
-                self.times = magnified(has_bit(value, 5));
-            }
-            SettingKind::Size => self.times = size_width(value),
-            _ => {}
-        }
     }
 
     // Whether there is text in the line after a command.
