@@ -6,6 +6,8 @@
 //! is proved a second time for them. A test that looks into a value stands in the crate of that value.
 //!
 //! A module for each job, and `widths`; `memory` lets each allocation of a call fail in turn. What they share is in `support`.
+//! Most tests are rows of steps, which are constants where they can be: one function plays a row, and lends the listener, the streams
+//! or the printer that it owns to a function for each kind of step.
 #![tactic(auto)]
 
 #[cfg(test)]

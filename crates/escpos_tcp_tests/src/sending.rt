@@ -1,97 +1,55 @@
 //! The job `send`, and a link of it over memory.
 
+use crate::support::asked::{Asked, RECEIPT, task_of};
 use crate::support::jobs::is_outcome;
-use crate::support::sockets::{
-    ANSWERED_BYTES, NEVER, Prepared, answered_link, connects_and_says, listens, nobody_waits,
-    reads_to_end,
-};
+use crate::support::sockets::{ANSWERED_BYTES, NEVER};
+use crate::support::steps::{Step, plays, plays_alone};
 use escpos_addresses::address::Address;
-use escpos_addresses::printer_link::{PrinterLink, Printers};
-use escpos_command::LineWidth;
+use escpos_addresses::printer_link::Printers;
 use escpos_io::{ByteIn, MemoryIn, MemoryOut};
 use escpos_job_parts::condition::ONLINE;
 use escpos_job_parts::status::Status;
 use escpos_jobs::task::Task;
 use escpos_receipt::ReceiptOptions;
-use escpos_tcp_jobs::send::{Marks, send_on, send_over, send_to};
+use escpos_tcp_jobs::send::{Marks, send_over};
 use escpos_test_jobs::{performs, run_job};
-use escpos_test_receipts::{S, read_receipt};
+use escpos_test_receipts::read_receipt;
 use std::alloc::Global;
-use std::io::Write;
-use std::net::{Ipv4Addr, Net, Shutdown, SocketAddr, SocketAddrV4, TcpListener, TcpStream};
+use std::net::{Ipv4Addr, Net, SocketAddrV4, TcpListener};
 use std::process::Abort;
 
-// A receipt is sent over a stream, and this is printed.
-fn sends_on_stream(
-    rt: &impl Abort,
-    alloc: Global,
-    stream: &TcpStream,
-    (first, openings): (u32, u32),
-    (text, status): (&str, Status),
-) {
-    let receipt = read_receipt(alloc, S.0).expect(rt, "a receipt");
-    let mut room = [0; 128];
-    let mut output = MemoryOut::new(&mut room);
-    let marks = Marks { first, openings };
-    let link = PrinterLink::over_tcp(stream.try_clone().expect(rt, "no second")).expect(
-        rt, "no link",
-    );
-    let ended = send_on(alloc, link, marks, receipt, &mut output);
-    let wanted = (text.as_bytes(), status);
-    is_outcome(rt, (output.written(), ended), wanted);
-}
-
-// What is short goes out at once over a stream, and a read waits as long as the link stands.
-fn is_prompt(rt: &impl Abort, stream: &TcpStream) {
-    assert!(rt; stream.nodelay().expect(rt, "no answer"));
-    assert!(rt; stream.read_timeout().expect(rt, "no answer").is_none());
-    stream.shutdown(Shutdown::Write).expect(rt, "can't end");
-}
+const SEND_RECORDED: &[Step] = &[
+    Step::Answered(ANSWERED_BYTES, 1),
+    Step::SendOn(0, (0, 1), "recorded 0\nnext 2\n", Status::Good),
+    Step::IsPrompt(0),
+    Step::Hears(1, b"\x1D(H\x06\x00000000\x1B@Hi\n\x1D(H\x06\x00000001"),
+];
 
 #[test]
 fn send_recorded(rt: HostRuntime) {
     assert!(&rt; ANSWERED_BYTES.len() == 71);
-    let (listener, address) = listens(&rt);
-    let (client, mut printer) = answered_link(&rt, (&listener, address));
-    let wanted = ("recorded 0\nnext 2\n", Status::Good);
-    sends_on_stream(&rt, rt.alloc(), &client, (0, 1), wanted);
-    is_prompt(&rt, &client);
-    let sent = b"\x1D(H\x06\x00000000\x1B@Hi\n\x1D(H\x06\x00000001";
-    reads_to_end(&rt, &mut printer, sent);
+    plays(&rt, rt.alloc(), SEND_RECORDED);
 }
 
-// The other end of a link sends these bytes and ends its writing; a receipt that is sent then isn't recorded.
-fn ends_so(
-    rt: &impl Abort,
-    alloc: Global,
-    (client, printer): (&TcpStream, &mut TcpStream),
-    (bytes, count): (&[u8], usize),
-    wanted: &str,
-) {
-    for _ in 0..count {
-        printer.write_all(bytes).expect(rt, "can't write");
-    }
-    printer.shutdown(Shutdown::Write).expect(rt, "can't end");
-    sends_on_stream(rt, alloc, client, (7, 3), (wanted, Status::Device));
-}
+const NOT_RECORDED: &[Step] = &[
+    Step::Answered(b"", 1),
+    Step::SendOn(0, (7, 3), "not recorded Ended\nnext 10\n", Status::Device),
+    Step::Answered(b"\x37\x220009\x00", 1),
+    Step::SendOn(2, (7, 3), "not recorded Ended\nnext 11\n", Status::Device),
+    Step::Answered(b"\x12\xFF", 1),
+    Step::SendOn(
+        4,
+        (7, 3),
+        "not recorded BadAnswer\nnext 10\n",
+        Status::Device,
+    ),
+    Step::Answered(b"\x12\x12\x12\x12", 20_000),
+    Step::SendOn(6, (7, 3), "not recorded TooLong\nnext 10\n", Status::Device),
+];
 
 #[test]
 fn not_recorded(rt: HostRuntime) {
-    let (listener, address) = listens(&rt);
-    let rows: [((&[u8], usize), &str); 4] = [
-        ((b"", 1), "not recorded Ended\nnext 10\n"),
-        ((b"\x37\x220009\x00", 1), "not recorded Ended\nnext 11\n"),
-        ((b"\x12\xFF", 1), "not recorded BadAnswer\nnext 10\n"),
-        (
-            (b"\x12\x12\x12\x12", 20_000),
-            "not recorded TooLong\nnext 10\n",
-        ),
-    ];
-    for (said, wanted) in rows {
-        let client = TcpStream::connect(&rt, address).expect(&rt, "no link");
-        let (mut printer, _) = listener.accept().expect(&rt, "no link");
-        ends_so(&rt, rt.alloc(), (&client, &mut printer), said, wanted);
-    }
+    plays(&rt, rt.alloc(), NOT_RECORDED);
 }
 
 // A receipt is sent to a printer at this text, and there is no link.
@@ -108,7 +66,7 @@ fn finds_no_device<N: Printers + Net<Listener = TcpListener> + Abort>(
         options: ReceiptOptions::usual(),
     };
     let mut room = [0; 64];
-    let mut input = MemoryIn::new(S.0, 100);
+    let mut input = MemoryIn::new(RECEIPT, 100);
     let mut output = MemoryOut::new(&mut room);
     let ended = run_job(rt, alloc, Ok(task), &mut input, &mut output);
     is_outcome(
@@ -126,221 +84,186 @@ fn no_device(rt: HostRuntime) {
     }
 }
 
-// A receipt that is read from an input is sent to an address, and this is printed.
-fn sends_to<N: Printers + Abort>(
-    rt: &N,
-    alloc: Global,
-    (address, first, openings): (SocketAddrV4, u32, u32),
-    input: &mut MemoryIn,
-    wanted: (&[u8], Status),
-) {
-    let mut room = [0; 64];
-    let mut output = MemoryOut::new(&mut room);
-    let ended = send_to(
-        rt,
-        alloc,
-        address.into(),
-        Marks { first, openings },
-        &ReceiptOptions::usual(),
-        input,
-        &mut output,
-    );
-    is_outcome(rt, (output.written(), ended), wanted);
-}
+const MARKS_USED_UP: &[Step] = &[Step::SendTo(
+    (4_294_967_294, 2),
+    RECEIPT,
+    "not recorded MarksUsedUp\nnext 4294967295\n",
+    Status::Refused,
+)];
+
+const NO_LINK: &[Step] = &[Step::SendTo((0, 1), RECEIPT, "no link\n", Status::Device)];
 
 #[test]
 fn send_refused(rt: HostRuntime) {
-    let (listener, address) = listens(&rt);
-    let mut input = MemoryIn::new(S.0, 100);
-    let text = b"not recorded MarksUsedUp\nnext 4294967295\n".as_slice();
-    let marks = (address, 4_294_967_294, 2);
-    sends_to(&rt, rt.alloc(), marks, &mut input, (text, Status::Refused));
-    drop(listener);
-    let mut input = MemoryIn::new(S.0, 100);
-    let wanted = (b"no link\n".as_slice(), Status::Device);
-    sends_to(&rt, rt.alloc(), (address, 0, 1), &mut input, wanted);
+    let address = plays(&rt, rt.alloc(), MARKS_USED_UP);
+    plays_alone(&rt, rt.alloc(), address, NO_LINK);
 }
+
+const NO_RECEIPT: &[Step] = &[
+    Step::NoWait,
+    Step::SendTo(
+        (0, 3),
+        b"[{\"line\":\"Hi\"},{\"feed\":256}]",
+        "refused 6 BadShape 1\n",
+        Status::Refused,
+    ),
+    Step::NobodyWaits,
+    Step::SendUnread((0, 3), RECEIPT, "", Status::Device),
+    Step::NobodyWaits,
+];
 
 // What isn't a receipt is refused before anything is connected.
 #[test]
 fn no_receipt_no_link(rt: HostRuntime) {
-    let (listener, address) = listens(&rt);
-    listener.set_nonblocking(true).expect(&rt, "can't set");
-    let mut input = MemoryIn::new(b"[{\"line\":\"Hi\"},{\"feed\":256}]", 100);
-    let wanted = (b"refused 6 BadShape 1\n".as_slice(), Status::Refused);
-    sends_to(&rt, rt.alloc(), (address, 0, 3), &mut input, wanted);
-    nobody_waits(&rt, &listener);
-    let mut input = MemoryIn::failing(S.0, 100, 1);
-    let wanted = (b"".as_slice(), Status::Device);
-    sends_to(&rt, rt.alloc(), (address, 0, 3), &mut input, wanted);
-    nobody_waits(&rt, &listener);
+    plays(&rt, rt.alloc(), NO_RECEIPT);
 }
 
-// A receipt is sent over memory, with reads and writes that fail from these calls on, and this is printed.
+// A first mark, the calls from which on reads and writes fail, what is printed and the status.
+const OUTCOMES: [(u32, (u64, u64), &str, Status); 6] = [
+    (
+        0,
+        (1, NEVER),
+        "not recorded ReadFault\nnext 3\n",
+        Status::Device,
+    ),
+    (
+        0,
+        (2, NEVER),
+        "not recorded ReadFault\nnext 4\n",
+        Status::Device,
+    ),
+    (
+        0,
+        (NEVER, 1),
+        "not recorded WriteFault\nnext 3\n",
+        Status::Device,
+    ),
+    (
+        0,
+        (NEVER, 2),
+        "not recorded WriteFault\nnext 4\n",
+        Status::Device,
+    ),
+    (
+        1,
+        (NEVER, NEVER),
+        "not recorded Ended\nnext 5\n",
+        Status::Device,
+    ),
+    (
+        4_294_967_293,
+        (NEVER, NEVER),
+        "not recorded MarksUsedUp\nnext 4294967295\n",
+        Status::Refused,
+    ),
+];
+
+// A receipt is sent over memory after three opening marks, with these answers and with reads and writes that fail from these calls on,
+// and this is printed to an output with this room.
 fn sends_over_memory(
     rt: &impl Abort,
     alloc: Global,
+    (first, answers): (u32, &[u8]),
     (read, write): (u64, u64),
-    (first, text, status): (u32, &str, Status),
+    printed: &mut [u8],
+    wanted: (&[u8], Status),
 ) {
-    let receipt = read_receipt(alloc, S.0).expect(rt, "a receipt");
+    let receipt = read_receipt(alloc, RECEIPT).expect(rt, "a receipt");
     let mut room = [0; 64];
-    let mut printed = [0; 64];
-    let mut reader = MemoryIn::failing(b"\x37\x220000\x00\x37\x220003\x00", 7, read);
+    let mut reader = MemoryIn::failing(answers, 7, read);
     let mut writer = MemoryOut::failing(&mut room, write);
-    let mut output = MemoryOut::new(&mut printed);
+    let mut output = MemoryOut::new(printed);
     let marks = Marks { first, openings: 3 };
     let ended = send_over(alloc, marks, receipt, &mut reader, &mut writer, &mut output);
-    let wanted = (text.as_bytes(), status);
     is_outcome(rt, (output.written(), ended), wanted);
 }
 
-// The same with an output that takes some bytes alone.
-fn sends_over_to_few(rt: &impl Abort, alloc: Global, (first, text, _): (u32, &str, Status)) {
-    let beginning = text.as_bytes().get(..5).expect(rt, "five bytes");
-    let receipt = read_receipt(alloc, S.0).expect(rt, "a receipt");
-    let (mut room, mut few) = ([0; 64], [0; 5]);
-    let mut reader = MemoryIn::new(b"", 7);
-    let mut writer = MemoryOut::failing(&mut room, 1);
-    let mut output = MemoryOut::new(&mut few);
-    let marks = Marks { first, openings: 3 };
-    let ended = send_over(alloc, marks, receipt, &mut reader, &mut writer, &mut output);
-    is_outcome(rt, (output.written(), ended), (beginning, Status::Device));
-}
-
+// Each outcome is printed; an output that takes five bytes alone has those.
 #[test]
 fn outcomes_of_a_receipt(rt: HostRuntime) {
-    let rows = [
-        (
-            (1, NEVER),
-            (0, "not recorded ReadFault\nnext 3\n", Status::Device),
-        ),
-        (
-            (2, NEVER),
-            (0, "not recorded ReadFault\nnext 4\n", Status::Device),
-        ),
-        (
-            (NEVER, 1),
-            (0, "not recorded WriteFault\nnext 3\n", Status::Device),
-        ),
-        (
-            (NEVER, 2),
-            (0, "not recorded WriteFault\nnext 4\n", Status::Device),
-        ),
-        (
-            (NEVER, NEVER),
-            (1, "not recorded Ended\nnext 5\n", Status::Device),
-        ),
-        (
-            (NEVER, NEVER),
-            (
-                4_294_967_293,
-                "not recorded MarksUsedUp\nnext 4294967295\n",
-                Status::Refused,
-            ),
-        ),
-    ];
-    for (faults, wanted) in rows {
-        sends_over_memory(&rt, rt.alloc(), faults, wanted);
-        sends_over_to_few(&rt, rt.alloc(), wanted);
+    for (first, faults, text, status) in &OUTCOMES {
+        let answers = b"\x37\x220000\x00\x37\x220003\x00";
+        let wanted = (text.as_bytes(), *status);
+        let (mut printed, mut few) = ([0; 64], [0; 5]);
+        let sent = (*first, answers.as_slice());
+        sends_over_memory(&rt, rt.alloc(), sent, *faults, &mut printed, wanted);
+        let beginning = text.as_bytes().get(..5).expect(&rt, "five bytes");
+        let wanted = (beginning, Status::Device);
+        let unsent = (*first, b"".as_slice());
+        sends_over_memory(&rt, rt.alloc(), unsent, (NEVER, 1), &mut few, wanted);
     }
 }
+
+// What is asked for, the input, what is printed and the status.
+const NOWHERE: [(Asked, &[u8], &[u8], Status); 5] = [
+    (Asked::Emulate(Some(1), ONLINE), b"", b"", Status::Device),
+    (Asked::Send(3), RECEIPT, b"no link\n", Status::Device),
+    (Asked::Loop, RECEIPT, b"no link\n", Status::Device),
+    (
+        Asked::Send(3),
+        b"[1]",
+        b"refused 6 BadShape 0\n",
+        Status::Refused,
+    ),
+    (
+        Asked::Loop,
+        b"[1]",
+        b"refused 6 BadShape 0\n",
+        Status::Refused,
+    ),
+];
 
 // Without a network nothing is listened to, and nothing is sent.
 #[test]
 fn no_network(rt: HostRuntime) {
     let address = SocketAddrV4::new(Ipv4Addr::new(127, 0, 0, 1), 9100);
-    let send = &Task::Send {
-        address: address.into(),
-        first: 0,
-        openings: 3,
-        wait: None,
-        options: ReceiptOptions::usual(),
-    };
-    let round = &Task::Loop {
-        width: LineWidth::usual(),
-    };
-    let rows: [(Task, &[u8], &[u8], Status); 5] = [
-        (
-            Task::Emulate {
-                address: address.into(),
-                links: Some(1),
-                condition: ONLINE,
-                width: LineWidth::usual(),
-                file: None,
-            },
-            b"",
-            b"",
-            Status::Device,
-        ),
-        (*send, S.0, b"no link\n", Status::Device),
-        (*round, S.0, b"no link\n", Status::Device),
-        (*send, b"[1]", b"refused 6 BadShape 0\n", Status::Refused),
-        (*round, b"[1]", b"refused 6 BadShape 0\n", Status::Refused),
-    ];
-    for (task, input, output, status) in rows {
-        let mut source = MemoryIn::new(input, 100);
-        assert!(&rt;
-            performs(
-                rt.alloc(),
-                Ok(task),
-                &mut source,
-                &mut [0; 64],
-                (output, status)
-            )
-        );
-        assert!(&rt; (source.pulls() > 0) == !input.is_empty());
+    for (asked, input, output, status) in &NOWHERE {
+        assert!(&rt; ends_nowhere(rt.alloc(), address, *asked, input, (output, *status)));
     }
 }
 
-// What is asked for over this network prints this.
-fn performs_over(
-    rt: &impl Abort,
+// What is asked for without a network prints this. It reads its input, unless there is none.
+fn ends_nowhere(
     alloc: Global,
-    net: &Prepared,
-    task: Task,
+    address: SocketAddrV4,
+    asked: Asked,
     input: &[u8],
-    (text, status): (&str, Status),
-) {
-    let mut room = [0; 256];
-    let mut source = MemoryIn::new(input, 100);
-    let mut output = MemoryOut::new(&mut room);
-    let ended = run_job(net, alloc, Ok(task), &mut source, &mut output);
-    let wanted = (text.as_bytes(), status);
-    is_outcome(rt, (output.written(), ended), wanted);
-    assert!(rt; (source.pulls() > 0) == !input.is_empty());
+    wanted: (&[u8], Status),
+) -> bool {
+    match task_of(address.into(), asked) {
+        Some(task) => prints_nowhere(alloc, task, input, wanted),
+        None => false,
+    }
 }
+
+fn prints_nowhere(alloc: Global, task: Task, input: &[u8], wanted: (&[u8], Status)) -> bool {
+    let mut source = MemoryIn::new(input, 100);
+    let printed = performs(alloc, Ok(task), &mut source, &mut [0; 64], wanted);
+    printed && (source.pulls() > 0) == !input.is_empty()
+}
+
+const OVER_LINKS: &[Step] = &[
+    Step::Answered(ANSWERED_BYTES, 1),
+    Step::AskPrepared(
+        Asked::Send(1),
+        RECEIPT,
+        "recorded 0\nnext 2\n",
+        Status::Good,
+    ),
+    Step::Connect(b"Hi\n"),
+    Step::Connect(b"Yo\n"),
+    Step::AskPrepared(
+        Asked::Emulate(Some(2), ONLINE),
+        b"",
+        "link 1 read 3 consumed 3 written 0 Ended\n\
+        link 2 read 3 consumed 3 written 0 Ended\n\
+        row left Hi\nfeed 1\nrow left Yo\nfeed 1\n",
+        Status::Good,
+    ),
+];
 
 // What the arguments ask for is done at their address, with their numbers.
 #[test]
 fn tasks_over_links(rt: HostRuntime) {
-    let (listener, address) = listens(&rt);
-    let (client, _printer) = answered_link(&rt, (&listener, address));
-    let net = Prepared {
-        address,
-        listener: &listener,
-        client: &client,
-    };
-    let send = Task::Send {
-        address: address.into(),
-        first: 0,
-        openings: 1,
-        wait: None,
-        options: ReceiptOptions::usual(),
-    };
-    let wanted = ("recorded 0\nnext 2\n", Status::Good);
-    performs_over(&rt, rt.alloc(), &net, send, S.0, wanted);
-    let _first = connects_and_says(&rt, address, b"Hi\n");
-    let _second = connects_and_says(&rt, address, b"Yo\n");
-    let emulate = Task::Emulate {
-        address: address.into(),
-        links: Some(2),
-        condition: ONLINE,
-        width: LineWidth::usual(),
-        file: None,
-    };
-    let text = "link 1 read 3 consumed 3 written 0 Ended\n\
-        link 2 read 3 consumed 3 written 0 Ended\n\
-        row left Hi\nfeed 1\nrow left Yo\nfeed 1\n";
-    performs_over(&rt, rt.alloc(), &net, emulate, b"", (text, Status::Good));
+    plays(&rt, rt.alloc(), OVER_LINKS);
 }

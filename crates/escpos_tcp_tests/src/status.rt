@@ -1,16 +1,13 @@
 //! The job `status`, over memory and over a link: the worked rows.
 
+use crate::support::asked::Asked;
 use crate::support::jobs::is_outcome;
-use crate::support::sockets::{NEVER, Prepared, listens, reads_to_end, says};
-use escpos_addresses::printer_link::Printers;
+use crate::support::sockets::NEVER;
+use crate::support::steps::{Step, plays, plays_alone};
 use escpos_io::{MemoryIn, MemoryOut};
 use escpos_job_parts::status::Status;
-use escpos_jobs::task::Task;
-use escpos_tcp_jobs::printer_status::{show_status, status_over};
-use escpos_test_jobs::run_job;
+use escpos_tcp_jobs::printer_status::status_over;
 use escpos_test_receipts::joined;
-use std::alloc::Global;
-use std::net::{Net, SocketAddrV4, TcpListener, TcpStream};
 use std::process::Abort;
 
 // The four requests.
@@ -115,21 +112,24 @@ const TOLD: [(&'static [u8], &'static str, Status); 20] = [
     ),
 ];
 
-// A printer answers so, with reads and writes that fail from these calls on, and this is printed.
-fn tells(
+// A printer answers so, with reads and writes that fail from these calls on, and this is printed to an output with this room.
+fn tells_into(
     rt: &impl Abort,
     (answers, read, write): (&[u8], u64, u64),
+    printed: &mut [u8],
     (text, status): (&str, Status),
 ) {
-    let (mut room, mut printed) = ([0; 64], [0; 64]);
+    let mut room = [0; 64];
     let mut reader = MemoryIn::failing(answers, 3, read);
     let mut writer = MemoryOut::failing(&mut room, write);
-    let mut output = MemoryOut::new(&mut printed);
+    let mut output = MemoryOut::new(printed);
     let ended = status_over(&mut reader, &mut writer, &mut output);
     is_outcome(rt, (output.written(), ended), (text.as_bytes(), status));
-    if write == NEVER {
-        assert!(rt; writer.written() == REQUESTS);
-    }
+    assert!(rt; write != NEVER || writer.written() == REQUESTS);
+}
+
+fn tells(rt: &impl Abort, faults: (&[u8], u64, u64), wanted: (&str, Status)) {
+    tells_into(rt, faults, &mut [0; 64], wanted);
 }
 
 #[test]
@@ -173,52 +173,23 @@ fn status_too_long(rt: HostRuntime) {
 // An output that fails is a device that fails.
 #[test]
 fn status_to_an_output_that_fails(rt: HostRuntime) {
-    let (mut room, mut printed) = ([0; 64], [0; 3]);
-    let mut reader = MemoryIn::new(b"\x12\x12\x12\x12", 3);
-    let mut writer = MemoryOut::new(&mut room);
-    let mut output = MemoryOut::new(&mut printed);
-    let ended = status_over(&mut reader, &mut writer, &mut output);
-    is_outcome(&rt, (output.written(), ended), (b"onl", Status::Device));
+    let four = b"\x12\x12\x12\x12".as_slice();
+    let wanted = ("onl", Status::Device);
+    tells_into(&rt, (four, NEVER, NEVER), &mut [0; 3], wanted);
 }
 
-// The printer at this address is asked, with no limit to a wait, and this is printed.
-fn asks<N: Printers + Net<Listener = TcpListener> + Abort>(
-    rt: &N,
-    alloc: Global,
-    address: SocketAddrV4,
-    (text, status): (&str, Status),
-) {
-    let mut room = [0; 64];
-    let mut source = MemoryIn::new(b"", 1);
-    let mut output = MemoryOut::new(&mut room);
-    let task = Task::Status {
-        address: address.into(),
-        wait: None,
-    };
-    let ended = run_job(rt, alloc, Ok(task), &mut source, &mut output);
-    is_outcome(rt, (output.written(), ended), (text.as_bytes(), status));
-}
+const OVER_A_LINK: &[Step] = &[
+    Step::Answered(b"\x1A\x16\x12\x12", 1),
+    Step::ShowStatus("offline\ncover open\npaper there\n", Status::Good),
+    Step::IsPrompt(0),
+    Step::Hears(1, REQUESTS),
+];
+
+const NO_LINK: &[Step] = &[Step::Ask(Asked::Status, b"", "no link\n", Status::Device)];
 
 // Over a network that hands out a link whose printer has answered; and where nobody listens.
 #[test]
 fn status_over_a_link(rt: HostRuntime) {
-    let (listener, address) = listens(&rt);
-    let client = TcpStream::connect(&rt, address).expect(&rt, "no link");
-    let (mut printer, _) = listener.accept().expect(&rt, "no link");
-    says(&rt, &mut printer, b"\x1A\x16\x12\x12");
-    let net = Prepared {
-        address,
-        listener: &listener,
-        client: &client,
-    };
-    let mut room = [0; 64];
-    let mut output = MemoryOut::new(&mut room);
-    let ended = show_status(&net, address.into(), &mut output);
-    let text = b"offline\ncover open\npaper there\n".as_slice();
-    is_outcome(&rt, (output.written(), ended), (text, Status::Good));
-    assert!(&rt; client.nodelay().expect(&rt, "no word"));
-    drop(client);
-    reads_to_end(&rt, &mut printer, REQUESTS);
-    drop(listener);
-    asks(&rt, rt.alloc(), address, ("no link\n", Status::Device));
+    let address = plays(&rt, rt.alloc(), OVER_A_LINK);
+    plays_alone(&rt, rt.alloc(), address, NO_LINK);
 }

@@ -2,21 +2,14 @@
 //!
 //! That a wait doesn't end before its time, and ends soon after it, is left to `bench/waits`: no test here is timed.
 
-use crate::support::jobs::is_outcome;
-use crate::support::sockets::{answered_link, listens};
-use escpos_addresses::printer_link::Printers;
-use escpos_io::{ByteIn, ByteOut, Failed, Incoming, MemoryIn, MemoryOut, Outgoing};
+use crate::support::asked::{Asked, RECEIPT};
+use crate::support::sockets::ANSWERED_BYTES;
+use crate::support::steps::{Step, plays, plays_alone};
+use escpos_io::{ByteIn, ByteOut, Failed, Incoming, MemoryIn, Outgoing};
 use escpos_job_parts::status::Status;
-use escpos_jobs::task::Task;
-use escpos_receipt::ReceiptOptions;
-use escpos_test_jobs::run_job;
-use escpos_test_receipts::S;
-use std::alloc::Global;
 use std::io;
 use std::io::{ErrorKind, Read, Write};
-use std::net::{Net, SocketAddr, SocketAddrV4, TcpListener, TcpStream};
 use std::process::Abort;
-use std::time::Duration;
 
 // A reader and writer whose every call ends in this error.
 #[derive(Drop)]
@@ -90,147 +83,75 @@ fn no_byte_taken_is_no_time_out(rt: HostRuntime) {
     assert!(&rt; !sink.has_timed_out());
 }
 
-// This is done over TCP, and this is printed.
-fn prints<N: Printers + Net<Listener = TcpListener> + Abort>(
-    rt: &N,
-    alloc: Global,
-    task: Task,
-    input: &[u8],
-    (text, status): (&str, Status),
-) {
-    let mut room = [0; 64];
-    let mut source = MemoryIn::new(input, 100);
-    let mut output = MemoryOut::new(&mut room);
-    let ended = run_job(rt, alloc, Ok(task), &mut source, &mut output);
-    is_outcome(rt, (output.written(), ended), (text.as_bytes(), status));
-}
+const SILENT: &[Step] = &[
+    Step::Ask(
+        Asked::SendWithin(3, 1),
+        RECEIPT,
+        "not recorded TimedOut\nnext 3\n",
+        Status::Device,
+    ),
+    Step::Ask(
+        Asked::StatusWithin(1),
+        b"",
+        "no status TimedOut\n",
+        Status::Device,
+    ),
+];
 
-// The tasks that wait for a printer, a second at most.
-fn waiting(address: SocketAddrV4) -> (Task, Task) {
-    let send = Task::Send {
-        address: address.into(),
-        first: 0,
-        openings: 3,
-        wait: Some(1),
-        options: ReceiptOptions::usual(),
-    };
-    let status = Task::Status {
-        address: address.into(),
-        wait: Some(1),
-    };
-    (send, status)
-}
+const NO_LINK: &[Step] = &[
+    Step::Ask(
+        Asked::SendWithin(3, 1),
+        RECEIPT,
+        "no link\n",
+        Status::Device,
+    ),
+    Step::Ask(Asked::StatusWithin(1), b"", "no link\n", Status::Device),
+];
 
 // A printer that is connected and silent; one that isn't there.
 #[test]
 fn a_silent_printer(rt: HostRuntime) {
-    let (listener, address) = listens(&rt);
-    let (send, status) = waiting(address);
-    let timed_out = ("not recorded TimedOut\nnext 3\n", Status::Device);
-    prints(&rt, rt.alloc(), send, S.0, timed_out);
-    let no_status = ("no status TimedOut\n", Status::Device);
-    prints(&rt, rt.alloc(), status, b"", no_status);
-    drop(listener);
-    let (send, status) = waiting(address);
-    let no_link = ("no link\n", Status::Device);
-    prints(&rt, rt.alloc(), send, S.0, no_link);
-    prints(&rt, rt.alloc(), status, b"", no_link);
+    let address = plays(&rt, rt.alloc(), SILENT);
+    plays_alone(&rt, rt.alloc(), address, NO_LINK);
 }
 
-// A network that connects this stream to this address, if it is to be done within an hour.
-#[derive(Drop)]
-struct InAnHour<'a> {
-    address: SocketAddrV4,
-    client: &'a TcpStream,
-}
-
-impl Net for InAnHour<'_> {
-    type Stream = TcpStream;
-
-    type Listener = TcpListener;
-
-    fn bind(&self, _addr: SocketAddr) -> io::Result<TcpListener> {
-        Err(io::Error::from(ErrorKind::AddrNotAvailable))
-    }
-
-    fn connect(&self, _addr: SocketAddr) -> io::Result<TcpStream> {
-        Err(io::Error::from(ErrorKind::NetworkUnreachable))
-    }
-
-    fn connect_timeout(&self, addr: SocketAddr, timeout: Duration) -> io::Result<TcpStream> {
-        if addr == SocketAddr::V4(self.address) && timeout == Duration::from_secs(3_600) {
-            self.client.try_clone()
-        } else {
-            Err(io::Error::from(ErrorKind::NetworkUnreachable))
-        }
-    }
-}
-
-impl Printers for InAnHour<'_> {}
-
-// A task over that network prints this.
-fn ends_in_an_hour(
-    rt: &impl Abort,
-    alloc: Global,
-    net: &InAnHour<'_>,
-    task: Task,
-    input: &[u8],
-    (text, status): (&str, Status),
-) {
-    let mut room = [0; 64];
-    let mut source = MemoryIn::new(input, 100);
-    let mut output = MemoryOut::new(&mut room);
-    let ended = run_job(net, alloc, Ok(task), &mut source, &mut output);
-    is_outcome(rt, (output.written(), ended), (text.as_bytes(), status));
-}
-
-// A read and a write of this stream wait an hour at most, and what is written goes out at once.
-fn is_limited(rt: &impl Abort, stream: &TcpStream) {
-    let hour = Some(Duration::from_secs(3_600));
-    assert!(rt; stream.read_timeout().expect(rt, "no limit") == hour);
-    assert!(rt; stream.write_timeout().expect(rt, "no limit") == hour);
-    assert!(rt; stream.nodelay().expect(rt, "no word"));
-}
+const LIMITS_OF_SEND: &[Step] = &[
+    Step::Answered(ANSWERED_BYTES, 1),
+    Step::AskInAnHour(
+        Asked::SendWithin(1, 60),
+        RECEIPT,
+        "no link\n",
+        Status::Device,
+    ),
+    Step::AskInAnHour(
+        Asked::SendWithin(1, 3_600),
+        RECEIPT,
+        "recorded 0\nnext 2\n",
+        Status::Good,
+    ),
+    Step::IsLimited(0),
+];
 
 // The connection is to be made within the time that is given, and no wait for a byte lasts longer: limits_of_send.
 #[test]
 fn limits_of_send(rt: HostRuntime) {
-    let (listener, address) = listens(&rt);
-    let (client, _printer) = answered_link(&rt, (&listener, address));
-    let net = InAnHour {
-        address,
-        client: &client,
-    };
-    let send = |wait| Task::Send {
-        address: address.into(),
-        first: 0,
-        openings: 1,
-        wait: Some(wait),
-        options: ReceiptOptions::usual(),
-    };
-    let no_link = ("no link\n", Status::Device);
-    ends_in_an_hour(&rt, rt.alloc(), &net, send(60), S.0, no_link);
-    let recorded = ("recorded 0\nnext 2\n", Status::Good);
-    ends_in_an_hour(&rt, rt.alloc(), &net, send(3_600), S.0, recorded);
-    is_limited(&rt, &client);
+    plays(&rt, rt.alloc(), LIMITS_OF_SEND);
 }
+
+const LIMITS_OF_STATUS: &[Step] = &[
+    Step::Answered(ANSWERED_BYTES, 1),
+    Step::AskInAnHour(Asked::StatusWithin(60), b"", "no link\n", Status::Device),
+    Step::AskInAnHour(
+        Asked::StatusWithin(3_600),
+        b"",
+        "online\ncover closed\npaper there\n",
+        Status::Good,
+    ),
+    Step::IsLimited(0),
+];
 
 // The same of `status`: limits_of_status.
 #[test]
 fn limits_of_status(rt: HostRuntime) {
-    let (listener, address) = listens(&rt);
-    let (client, _printer) = answered_link(&rt, (&listener, address));
-    let net = InAnHour {
-        address,
-        client: &client,
-    };
-    let status = |wait| Task::Status {
-        address: address.into(),
-        wait: Some(wait),
-    };
-    let no_link = ("no link\n", Status::Device);
-    ends_in_an_hour(&rt, rt.alloc(), &net, status(60), b"", no_link);
-    let told = ("online\ncover closed\npaper there\n", Status::Good);
-    ends_in_an_hour(&rt, rt.alloc(), &net, status(3_600), b"", told);
-    is_limited(&rt, &client);
+    plays(&rt, rt.alloc(), LIMITS_OF_STATUS);
 }

@@ -3,7 +3,9 @@
 //! Where memory is refused the link is used up, and a new one is made.
 
 use crate::support::jobs::printer_at_last;
-use crate::support::sockets::{Prepared, answered_link, connects_and_says, listens};
+use crate::support::sockets::{
+    ANSWERED_BYTES, Prepared, answered_link, connects_and_says, listens,
+};
 use escpos_addresses::printer_link::PrinterLink;
 use escpos_command::LineWidth;
 use escpos_host::Receipt;
@@ -74,17 +76,6 @@ fn serves_and_tells(rt: &impl Abort, printer: &mut Printer, paper: &mut PaperTex
     is_whole
 }
 
-#[test]
-fn serve_and_tell_refused(rt: HostRuntime) {
-    let mut printer = printer_at_last(&rt, rt.alloc());
-    let mut paper = PaperText::new(rt.alloc());
-    if !serves_and_tells(&rt, &mut printer, &mut paper) {
-        let mut printer = printer_at_last(&rt, rt.alloc());
-        let mut paper = PaperText::new(rt.alloc());
-        assert!(&rt; serves_and_tells(&rt, &mut printer, &mut paper));
-    }
-}
-
 // A link is followed over memory. Answers no where memory is refused. What it printed is put all the same.
 fn follows_link(rt: &impl Abort, alloc: Global, printer: &mut Printer) -> bool {
     let (mut room, mut printed) = ([0; 4], [0; 256]);
@@ -110,17 +101,78 @@ fn follows_link(rt: &impl Abort, alloc: Global, printer: &mut Printer) -> bool {
     true
 }
 
+// A receipt goes round to this printer. Answers no where memory is refused.
+fn meets<N: Net<Stream = TcpStream, Listener = TcpListener> + Abort>(
+    rt: &N,
+    alloc: Global,
+    printer: &mut Printer,
+) -> bool {
+    let receipt = receipt_at_last(alloc).expect(rt, "a receipt");
+    let (listener, address) = listens(rt);
+    let near = TcpStream::connect(rt, address).expect(rt, "no link");
+    let (far, _) = listener.accept().expect(rt, "no link");
+    let mut room = [0; 64];
+    let mut output = MemoryOut::new(&mut room);
+    let status = escpos_tcp_jobs::loop_link::both_ends_of(
+        alloc,
+        &near,
+        &far,
+        printer,
+        receipt,
+        &mut output,
+    );
+    is_whole((output.written(), status), ROUND).expect(rt, "what a job puts")
+}
+
+// A call with a printer over memory.
+#[derive(Clone, Copy)]
+enum Printing {
+    ServeAndTell,
+    FollowLink,
+    BothEndsOf,
+}
+
+// Makes a call with a new printer. Answers no where memory is refused.
+fn is_called<N: Net<Stream = TcpStream, Listener = TcpListener> + Abort>(
+    rt: &N,
+    alloc: Global,
+    call: Printing,
+) -> bool {
+    let mut printer = printer_at_last(rt, alloc);
+    match call {
+        Printing::ServeAndTell => { serves_and_tells(rt, &mut printer, &mut PaperText::new(alloc)) }
+        Printing::FollowLink => follows_link(rt, alloc, &mut printer),
+        Printing::BothEndsOf => meets(rt, alloc, &mut printer),
+    }
+}
+
+// Makes a call. Where memory is refused, it is made again.
+fn is_called_at_last<N: Net<Stream = TcpStream, Listener = TcpListener> + Abort>(
+    rt: &N,
+    alloc: Global,
+    call: Printing,
+) -> bool {
+    is_called(rt, alloc, call) || is_called(rt, alloc, call)
+}
+
+#[test]
+fn serve_and_tell_refused(rt: HostRuntime) {
+    assert!(&rt; is_called_at_last(&rt, rt.alloc(), Printing::ServeAndTell));
+}
+
 #[test]
 fn follow_link_refused(rt: HostRuntime) {
-    let mut printer = printer_at_last(&rt, rt.alloc());
-    if !follows_link(&rt, rt.alloc(), &mut printer) {
-        let mut printer = printer_at_last(&rt, rt.alloc());
-        assert!(&rt; follows_link(&rt, rt.alloc(), &mut printer));
-    }
+    assert!(&rt; is_called_at_last(&rt, rt.alloc(), Printing::FollowLink));
+}
+
+#[test]
+fn both_ends_of_refused(rt: HostRuntime) {
+    assert!(&rt; is_called_at_last(&rt, rt.alloc(), Printing::BothEndsOf));
 }
 
 // Links are followed up to the first that can't be accepted. Answers no where memory is refused: the last line says so.
 fn follows_on(rt: &impl Abort, alloc: Global, listener: &TcpListener) -> bool {
+    listener.set_nonblocking(true).expect(rt, "can't set");
     let mut room = [0; 256];
     let mut output = MemoryOut::new(&mut room);
     let status = escpos_tcp_jobs::emulate::follow_on(
@@ -139,15 +191,107 @@ fn follows_on(rt: &impl Abort, alloc: Global, listener: &TcpListener) -> bool {
     true
 }
 
+// A printer has served one link. Answers no where memory is refused: the line of the link says so if it has one, and the last
+// line does.
+fn is_emulated(rt: &impl Abort, put: &[u8], status: Status) -> bool {
+    if status == Status::Memory {
+        assert!(rt; put.ends_with(MEMORY));
+        assert!(rt; put == MEMORY || put.starts_with(b"link 1 read 27 consumed "));
+        return false;
+    }
+    assert!(rt; put == EMULATED_LINK);
+    assert!(rt; status == Status::Good);
+    true
+}
+
+fn emulates_on(rt: &impl Abort, alloc: Global, listener: &TcpListener) -> bool {
+    let mut room = [0; 256];
+    let mut output = MemoryOut::new(&mut room);
+    let status = escpos_tcp_jobs::emulate::emulate_on(
+        alloc,
+        listener,
+        1,
+        ONLINE,
+        LineWidth::usual(),
+        &mut output,
+    );
+    is_emulated(rt, output.written(), status)
+}
+
+fn emulates_at(rt: &impl Abort, alloc: Global, net: &Prepared) -> bool {
+    let mut room = [0; 256];
+    let mut output = MemoryOut::new(&mut room);
+    let status = escpos_tcp_jobs::emulate::emulate(
+        net,
+        alloc,
+        net.address.into(),
+        Some(1),
+        ONLINE,
+        LineWidth::usual(),
+        None,
+        &mut output,
+    );
+    is_emulated(rt, output.written(), status)
+}
+
+// A client that has written `EMULATED_BYTES` and ends its writing.
+pub fn client_of_link<N: Net<Stream = TcpStream, Listener = TcpListener> + Abort>(
+    rt: &N,
+    address: SocketAddrV4,
+) -> TcpStream {
+    connects_and_says(rt, address, EMULATED_BYTES)
+}
+
+// A call that serves the client of a listener.
+#[derive(Clone, Copy)]
+enum Serving {
+    FollowOn,
+    EmulateOn,
+    Emulate,
+}
+
+// Makes a call. Answers no where memory is refused.
+fn is_serving(rt: &impl Abort, alloc: Global, call: Serving, net: &Prepared) -> bool {
+    match call {
+        Serving::FollowOn => follows_on(rt, alloc, net.listener),
+        Serving::EmulateOn => emulates_on(rt, alloc, net.listener),
+        Serving::Emulate => emulates_at(rt, alloc, net),
+    }
+}
+
+// Makes a call to which a client has connected. Where memory is refused it is made again, and another client has connected.
+fn is_serving_at_last<N: Net<Stream = TcpStream, Listener = TcpListener> + Abort>(
+    rt: &N,
+    alloc: Global,
+    call: Serving,
+) -> bool {
+    let (listener, address) = listens(rt);
+    let client = client_of_link(rt, address);
+    let net = Prepared {
+        address,
+        listener: &listener,
+        client: &client,
+    };
+    if is_serving(rt, alloc, call, &net) {
+        return true;
+    }
+    let _second = client_of_link(rt, address);
+    is_serving(rt, alloc, call, &net)
+}
+
 #[test]
 fn follow_on_refused(rt: HostRuntime) {
-    let (listener, address) = listens(&rt);
-    let _first = client_of_link(&rt, address);
-    listener.set_nonblocking(true).expect(&rt, "can't set");
-    if !follows_on(&rt, rt.alloc(), &listener) {
-        let _second = client_of_link(&rt, address);
-        assert!(&rt; follows_on(&rt, rt.alloc(), &listener));
-    }
+    assert!(&rt; is_serving_at_last(&rt, rt.alloc(), Serving::FollowOn));
+}
+
+#[test]
+fn emulate_on_refused(rt: HostRuntime) {
+    assert!(&rt; is_serving_at_last(&rt, rt.alloc(), Serving::EmulateOn));
+}
+
+#[test]
+fn emulate_refused(rt: HostRuntime) {
+    assert!(&rt; is_serving_at_last(&rt, rt.alloc(), Serving::Emulate));
 }
 
 // A receipt was sent with one opening mark: it is recorded. Answers no where memory is refused: that is all that is said, with
@@ -192,82 +336,6 @@ fn send_over_refused(rt: HostRuntime) {
     }
 }
 
-// A client that has written `EMULATED_BYTES` and ends its writing.
-pub fn client_of_link<N: Net<Stream = TcpStream, Listener = TcpListener> + Abort>(
-    rt: &N,
-    address: SocketAddrV4,
-) -> TcpStream {
-    connects_and_says(rt, address, EMULATED_BYTES)
-}
-
-// A printer has served one link. Answers no where memory is refused: the line of the link says so if it has one, and the last
-// line does.
-fn is_emulated(rt: &impl Abort, put: &[u8], status: Status) -> bool {
-    if status == Status::Memory {
-        assert!(rt; put.ends_with(MEMORY));
-        assert!(rt; put == MEMORY || put.starts_with(b"link 1 read 27 consumed "));
-        return false;
-    }
-    assert!(rt; put == EMULATED_LINK);
-    assert!(rt; status == Status::Good);
-    true
-}
-
-fn emulates_on(rt: &impl Abort, alloc: Global, listener: &TcpListener) -> bool {
-    let mut room = [0; 256];
-    let mut output = MemoryOut::new(&mut room);
-    let status = escpos_tcp_jobs::emulate::emulate_on(
-        alloc,
-        listener,
-        1,
-        ONLINE,
-        LineWidth::usual(),
-        &mut output,
-    );
-    is_emulated(rt, output.written(), status)
-}
-
-#[test]
-fn emulate_on_refused(rt: HostRuntime) {
-    let (listener, address) = listens(&rt);
-    let _first = client_of_link(&rt, address);
-    if !emulates_on(&rt, rt.alloc(), &listener) {
-        let _second = client_of_link(&rt, address);
-        assert!(&rt; emulates_on(&rt, rt.alloc(), &listener));
-    }
-}
-
-fn emulates_at(rt: &impl Abort, alloc: Global, net: &Prepared, address: SocketAddrV4) -> bool {
-    let mut room = [0; 256];
-    let mut output = MemoryOut::new(&mut room);
-    let status = escpos_tcp_jobs::emulate::emulate(
-        net,
-        alloc,
-        address.into(),
-        Some(1),
-        ONLINE,
-        LineWidth::usual(),
-        None,
-        &mut output,
-    );
-    is_emulated(rt, output.written(), status)
-}
-
-#[test]
-fn emulate_refused(rt: HostRuntime) {
-    let (listener, address) = listens(&rt);
-    let first = client_of_link(&rt, address);
-    let net = Prepared {
-        address,
-        listener: &listener,
-        client: &first,
-    };
-    if !emulates_at(&rt, rt.alloc(), &net, address) {
-        let _second = client_of_link(&rt, address);
-        assert!(&rt; emulates_at(&rt, rt.alloc(), &net, address));
-    }
-}
-
 // The first mark has the number 0, and is the only opening mark.
 const FIRST: Marks = Marks {
     first: 0,
@@ -286,25 +354,15 @@ fn sends_on_link(rt: &impl Abort, alloc: Global, stream: &TcpStream) -> bool {
     is_sent(rt, output.written(), status)
 }
 
-#[test]
-fn send_on_refused(rt: HostRuntime) {
-    let (listener, address) = listens(&rt);
-    let (host, _printer) = answered_link(&rt, (&listener, address));
-    if !sends_on_link(&rt, rt.alloc(), &host) {
-        let (host, _printer) = answered_link(&rt, (&listener, address));
-        assert!(&rt; sends_on_link(&rt, rt.alloc(), &host));
-    }
-}
-
 // The same of a receipt that is read first. Where memory is refused before there is one, `memory` is all that is said.
-fn sends_to_net(rt: &impl Abort, alloc: Global, net: &Prepared, address: SocketAddrV4) -> bool {
+fn sends_to_net(rt: &impl Abort, alloc: Global, net: &Prepared) -> bool {
     let mut room = [0; 32];
     let mut source = MemoryIn::new(S.0, 7);
     let mut output = MemoryOut::new(&mut room);
     let status = send_to(
         net,
         alloc,
-        address.into(),
+        net.address.into(),
         FIRST,
         &ReceiptOptions::usual(),
         &mut source,
@@ -317,24 +375,53 @@ fn sends_to_net(rt: &impl Abort, alloc: Global, net: &Prepared, address: SocketA
     is_sent(rt, output.written(), status)
 }
 
+// A call that sends a receipt over a link whose other end has answered.
+#[derive(Clone, Copy)]
+enum Sending {
+    SendOn,
+    SendTo,
+}
+
+// Makes a call over a new link. Answers no where memory is refused.
+fn is_sending<N: Net<Stream = TcpStream, Listener = TcpListener> + Abort>(
+    rt: &N,
+    alloc: Global,
+    call: Sending,
+    (listener, address): (&TcpListener, SocketAddrV4),
+) -> bool {
+    let (client, _printer) = answered_link(rt, (listener, address), (ANSWERED_BYTES, 1));
+    match call {
+        Sending::SendOn => sends_on_link(rt, alloc, &client),
+        Sending::SendTo => {
+            let net = Prepared {
+                address,
+                listener,
+                client: &client,
+            };
+            sends_to_net(rt, alloc, &net)
+        }
+    }
+}
+
+// Makes a call. Where memory is refused, it is made again.
+fn is_sending_at_last<N: Net<Stream = TcpStream, Listener = TcpListener> + Abort>(
+    rt: &N,
+    alloc: Global,
+    call: Sending,
+) -> bool {
+    let (listener, address) = listens(rt);
+    let ends = (&listener, address);
+    is_sending(rt, alloc, call, ends) || is_sending(rt, alloc, call, ends)
+}
+
+#[test]
+fn send_on_refused(rt: HostRuntime) {
+    assert!(&rt; is_sending_at_last(&rt, rt.alloc(), Sending::SendOn));
+}
+
 #[test]
 fn send_to_refused(rt: HostRuntime) {
-    let (listener, address) = listens(&rt);
-    let (host, _printer) = answered_link(&rt, (&listener, address));
-    let net = Prepared {
-        address,
-        listener: &listener,
-        client: &host,
-    };
-    if !sends_to_net(&rt, rt.alloc(), &net, address) {
-        let (host, _printer) = answered_link(&rt, (&listener, address));
-        let net = Prepared {
-            address,
-            listener: &listener,
-            client: &host,
-        };
-        assert!(&rt; sends_to_net(&rt, rt.alloc(), &net, address));
-    }
+    assert!(&rt; is_sending_at_last(&rt, rt.alloc(), Sending::SendTo));
 }
 
 // What goes round to a printer and back.
@@ -385,36 +472,5 @@ fn ends_meet<N: Net<Stream = TcpStream, Listener = TcpListener> + Abort>(
 fn both_ends_refused(rt: HostRuntime) {
     if !ends_meet(&rt, rt.alloc()) {
         assert!(&rt; ends_meet(&rt, rt.alloc()));
-    }
-}
-
-fn meets<N: Net<Stream = TcpStream, Listener = TcpListener> + Abort>(
-    rt: &N,
-    alloc: Global,
-    printer: &mut Printer,
-) -> bool {
-    let receipt = receipt_at_last(alloc).expect(rt, "a receipt");
-    let (listener, address) = listens(rt);
-    let near = TcpStream::connect(rt, address).expect(rt, "no link");
-    let (far, _) = listener.accept().expect(rt, "no link");
-    let mut room = [0; 64];
-    let mut output = MemoryOut::new(&mut room);
-    let status = escpos_tcp_jobs::loop_link::both_ends_of(
-        alloc,
-        &near,
-        &far,
-        printer,
-        receipt,
-        &mut output,
-    );
-    is_whole((output.written(), status), ROUND).expect(rt, "what a job puts")
-}
-
-#[test]
-fn both_ends_of_refused(rt: HostRuntime) {
-    let mut printer = printer_at_last(&rt, rt.alloc());
-    if !meets(&rt, rt.alloc(), &mut printer) {
-        let mut printer = printer_at_last(&rt, rt.alloc());
-        assert!(&rt; meets(&rt, rt.alloc(), &mut printer));
     }
 }
