@@ -184,6 +184,15 @@ macro_rules! names {
     };
 }
 
+// The parameters of a kind.
+macro_rules! values {
+    ($place:ident; $($kind:ident, $first:expr, $second:expr, $third:tt, $values:ident, $since:expr, $name:expr;)*) => {
+        match $place {
+            $(SettingKind::$kind => Values::$values,)*
+        }
+    };
+}
+
 // The kind of a prefix.
 macro_rules! kinds {
     ($place:ident; $($kind:ident, $first:tt, $second:tt, $third:tt, $values:ident, $since:expr, $name:expr;)*) => {
@@ -268,7 +277,7 @@ impl SettingKind {
     fn values(self) -> Values
         ensures { result ≡ (row_for table self).values }
     {
-        TABLE[self as usize].values
+        settings!(values self)
     }
 }
 
