@@ -211,8 +211,11 @@ macro_rules! has_third {
 
 // Whether a prefix of three bytes begins with the two of a place.
 macro_rules! begun {
-    ($place:ident; $($kind:ident, $first:expr, $second:expr, $third:tt, $values:ident, $since:expr, $name:expr;)*) => {
-        $($place.0 == $first && $place.1 == $second && has_third!($third) ||)* false
+    ($place:ident; $($kind:ident, $first:tt, $second:tt, $third:tt, $values:ident, $since:expr, $name:expr;)*) => {
+        match $place {
+            $(($first, $second) if has_third!($third) => true,)*
+            _ => false,
+        }
     };
 }
 
