@@ -14,7 +14,7 @@ use Rattle.escpos_command.specs.declared.parameter.choices.FontFace.{FontFace}
 use Rattle.escpos_command.specs.declared.parameter.choices.FontFace.TheVariants.{A, B}
 use Rattle.escpos_paper.specs.declared.cell.Cell.{Cell}
 use Rattle.escpos_paper.specs.declared.style.Style.{Style}
-use Rattle.escpos_paper.specs.Cells.{cell_dots, dots, face_dots, style_dots}
+use Rattle.escpos_paper.specs.Cells.{cell_dots, dots, face_dots, style_dots, narrow_dots}
 use Rattle.escpos_paper.specs.Rows.{fits}
 use Rattle.escpos_paper.specs.Styles.{style, style_after}
 use Rattle.escpos_paper.specs.Typed.{IsTyping, typed}
@@ -110,6 +110,9 @@ face_some : (face : FontFace) → 1 ≤ face_dots face
 face_some A = omega arith
 face_some B = omega arith
 
+style_some : (s : Style) → 1 ≤ narrow_dots s
+style_some s = let face = face_some s.font in omega (arith, face)
+
 -- One character more isn't on the line.
 one_over : (width d : ℕ) → 1 ≤ d → width < at_least_one (width / d) * d + d
 one_over width d some = go (width / d) (lt-div-mul-add some) where
@@ -121,7 +124,7 @@ pub ends_at_line_end : (width : ℕ) (s : Style) (row : List Cell) → 1 ≤ s.w
     → EndsAtLineEnd width s row
 ends_at_line_end width s row some h full =
     let d = style_dots s in
-    let wide : 1 ≤ d = mul-le-mul (face_some s.font) some in
+    let wide : 1 ≤ d = mul-le-mul (style_some s) some in
     let dots_are = dots_in_style s row h in
     let same : length row * d ≡ at_least_one (width / d) * d = ap (λ n. n * d) full in
     omega (arith, dots_are, same, one_over width d wide)

@@ -23,7 +23,7 @@ use Rattle.escpos_layout.specs.Writing.{lines_written}
 
 -- ## How many characters a line has
 
-sized : FontFace → ℕ → Style
+abbrev sized : FontFace → ℕ → Style
 sized font width = record power_on { font = font; width = width }
 
 -- 512 dots have 42 characters of font A and 56 of font B, and half as many at twice the width; 384 dots have 32 of font A.

@@ -47,3 +47,10 @@ prefix_fits width row x more h = elim (fit_means width (row ++ x ∷ more) h) [
       narrow_fits width (row ++ x ∷ [])
       (omega (arith, sum_by-append cell_dots row (x ∷ []), sum_by-append cell_dots row (x ∷ more), sum_by-cons cell_dots x more, sum_by-cons cell_dots x []))
 ]
+
+-- What fits into a line fits into a wider one.
+pub wider_fits : (width wider : ℕ) (row : List Cell) → width ≤ wider → fits width row ≡ true → fits wider row ≡ true
+wider_fits width wider row more h = elim (fit_means width row h) [
+  | inl one ↦ one_fits wider row one
+  | inr narrow ↦ narrow_fits wider row (omega (arith, narrow, more))
+]

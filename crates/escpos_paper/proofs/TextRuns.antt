@@ -1,16 +1,15 @@
 -- Characters of one style, side by side.
-use Rattle.std.proofs.Common.{◌≡◌, ℕ, ◌+◌, ◌*◌, ◌-◌, ◌/◌, ◌≤◌, ◌<◌, List, [], ◌∷◌, ◌++◌, length, length-append, map, ◌∙◌, ap, arith, inl, inr, true, false}
+use Rattle.std.proofs.Common.{◌≡◌, ℕ, ◌+◌, ◌*◌, ◌-◌, ◌/◌, ◌≤◌, ◌<◌, List, [], ◌∷◌, ◌++◌, length, length-append, map, ◌∙◌, ap, arith, ◌⊎◌, inl, inr, true, false}
 use Rattle.std.specs.Prelude.{IsTrue, IsFalse}
-use Rattle.std.proofs.Math.Nat.{le-div_iff_mul-le, mul-le-mul, mul-le-mul_right}
+use Rattle.std.proofs.Math.Nat.{le-div_iff_mul-le, mul-le-mul, mul-le-mul_right, mul_comm}
 use Rattle.std.proofs.lemmas.Bool.{cases_lt}
 use Rattle.std.proofs.lemmas.List.{length-map}
 use Rattle.std.proofs.lemmas.List.Sums.{sum_by-append, sum_by-cons}
-use Rattle.escpos_command.specs.declared.line_width.TheConstants.{MOST_LINE_DOTS}
 use Rattle.escpos_command.specs.declared.parameter.choices.FontFace.{FontFace}
 use Rattle.escpos_command.specs.declared.parameter.choices.FontFace.TheVariants.{A, B}
 use Rattle.escpos_paper.specs.declared.cell.Cell.{Cell}
 use Rattle.escpos_paper.specs.declared.style.Style.{Style}
-use Rattle.escpos_paper.specs.Cells.{cell, cell_dots, dots, face_dots, style_dots}
+use Rattle.escpos_paper.specs.Cells.{cell, cell_dots, dots, face_dots, narrow_dots, style_dots}
 use Rattle.escpos_paper.specs.Rows.{fits}
 use Rattle.escpos_paper.specs.Styles.{is_empty}
 use Rattle.escpos_paper.proofs.Fits.{fit_means, one_fits, narrow_fits, too_wide}
@@ -49,35 +48,29 @@ pub alone_fits : (w : ℕ) (s : Style) (row : List Cell) (bs : List ℕ) → is_
 alone_fits w s [] bs none few = one_fits w (map (cell s) bs) (omega (arith, length-map bs (cell s)))
 alone_fits w s (x ∷ row) bs none few = absurd cc
 
--- Characters that fit aren't wider than the widest line, together with those before them.
-pub narrow_at : (face : FontFace) (n : ℕ) → n ≤ 8 → face_dots face * n ≤ MOST_LINE_DOTS
-narrow_at A n h = omega arith
-narrow_at B n h = omega arith
-
-alone_inside : (s : Style) (row : List Cell) (bs : List ℕ) → s.width ≤ 8 → length row ≤ 0 → length bs ≤ 1 → dots (row ++ map (cell s) bs) ≤ MOST_LINE_DOTS
-alone_inside s [] [] narrow none one = omega arith
-alone_inside s [] (b ∷ []) narrow none one =
-    let inside = narrow_at s.font s.width narrow in
-    omega (arith, inside, sum_by-cons cell_dots (cell s b) [])
-alone_inside s [] (b ∷ c ∷ bs) narrow none one = absurd (omega arith)
-alone_inside s (x ∷ row) bs narrow none one = absurd (omega arith)
-
-pub text_inside : (w : ℕ) (s : Style) (row : List Cell) (bs : List ℕ) → w ≤ MOST_LINE_DOTS → s.width ≤ 8 → 1 ≤ length bs
-    → IsTrue (fits w (row ++ map (cell s) bs)) → dots (row ++ map (cell s) bs) ≤ MOST_LINE_DOTS
-text_inside w s row bs small narrow some fit =
-    elim (fit_means w (row ++ map (cell s) bs) fit) [
-      | inl one ↦ alone_inside s row bs narrow (omega (arith, one, some, length-append row (map (cell s) bs), length-map bs (cell s)))
-          (omega (arith, one, some, length-append row (map (cell s) bs), length-map bs (cell s)))
-      | inr inside ↦ omega (arith, inside)
-    ]
+-- Characters that fit into a line: after others they take the dots that are left, or there is one of them, or none.
+pub text_narrow : (w : ℕ) (s : Style) (row : List Cell) (bs : List ℕ) → IsTrue (fits w (row ++ map (cell s) bs))
+    → (dots row + style_dots s * length bs ≤ w) ⊎ ((length row ≤ 0) × (length bs ≤ 1)) ⊎ ((length row ≤ 1) × (length bs ≤ 0))
+text_narrow w s row bs fit = elim (fit_means w (row ++ map (cell s) bs) fit) [
+  | inl one ↦
+      let both : length row + length bs ≤ 1 = omega (arith, one, length-append row (map (cell s) bs), length-map bs (cell s)) in
+      inr (elim (cases_lt 0 (length row)) [
+        | inl some ↦ inr (omega (arith, both, some), omega (arith, both, some))
+        | inr none ↦ inl (omega (arith, none), omega (arith, both))
+      ])
+  | inr inside ↦ inl (omega (arith, inside, dots_with_text s row bs, mul_comm (style_dots s) (length bs)))
+]
 
 -- A character is at least 9 dots wide.
 wide_at : (face : FontFace) → 9 ≤ face_dots face
 wide_at A = omega arith
 wide_at B = omega arith
 
+wide_alone : (s : Style) → 9 ≤ narrow_dots s
+wide_alone s = let face = wide_at s.font in omega (arith, face)
+
 pub wide_face : (s : Style) → 1 ≤ s.width → 9 ≤ style_dots s
-wide_face s wide = mul-le-mul (wide_at s.font) wide
+wide_face s wide = mul-le-mul (wide_alone s) wide
 
 pub wide_text : (s : Style) (n : ℕ) → 1 ≤ s.width → 9 * n ≤ style_dots s * n
 wide_text s n wide = mul-le-mul_right n (wide_face s wide)

@@ -25,9 +25,13 @@ abbrev pub face_dots : FontFace → ℕ
 face_dots A = 12
 face_dots B = 9
 
--- How wide a character in a style is.
+-- How wide a character in a style is at width 1.
+abbrev pub narrow_dots : Style → ℕ
+narrow_dots s = face_dots s.font
+
+-- How wide it is.
 abbrev pub style_dots : Style → ℕ
-style_dots s = face_dots s.font * s.width
+style_dots s = narrow_dots s * s.width
 
 abbrev pub cell_dots : Cell → ℕ
 cell_dots x = style_dots x.style

@@ -1,7 +1,7 @@
 //! The line that isn't printed yet.
 //!
 //! It keeps its width in dots beside its cells, so that one addition decides whether one more cell fits. How wide it may be
-//! is the page's, and a parameter here.
+//! is the page's, and a parameter here. A cell alone may be wider than any line.
 
 ghost use Rattle.std.specs.Prelude.{◌≡◌, ◌+◌, ◌*◌, ◌≤◌, IsTrue, IsFalse, ℕ, List, [], ◌∷◌, ◌++◌, length, map};
 ghost use Rattle.escpos_command.specs.declared.line_width.TheConstants.{MOST_LINE_DOTS};
@@ -14,7 +14,7 @@ use crate::style::Style;
 use escpos_command::LineWidth;
 use std::marker::Model;
 
-/// Cells that together aren't wider than the widest line. The model of a line is the list of its cells.
+/// Cells that fit into the widest line. The model of a line is the list of its cells.
 #[derive(Drop)]
 pub struct PrintBuffer {
     cells: Cells,
@@ -22,16 +22,17 @@ pub struct PrintBuffer {
 }
 
 impl Model for PrintBuffer {
-    ghost use Rattle.std.specs.Prelude.{List, length, ◌*◌, ◌≤◌, ◌≡◌};
+    ghost use Rattle.std.specs.Prelude.{List, length, ◌*◌, ◌≤◌, ◌≡◌, IsTrue};
     ghost use Rattle.escpos_paper.specs.declared.cell.Cell.{Cell};
     ghost use Rattle.escpos_command.specs.declared.line_width.TheConstants.{MOST_LINE_DOTS};
     ghost use Rattle.escpos_paper.specs.Cells.{dots};
+    ghost use Rattle.escpos_paper.specs.Rows.{fits};
 
     ghost Value = { List Cell };
 
     ghost view = { λ l. l.cells };
 
-    ghost invariant = { λ l. (l.used ≡ dots l.cells) × (l.used ≤ MOST_LINE_DOTS) × (9 * length l.cells ≤ l.used) };
+    ghost invariant = { λ l. (l.used ≡ dots l.cells) × IsTrue (fits MOST_LINE_DOTS l.cells) × (9 * length l.cells ≤ l.used) };
 }
 
 impl PrintBuffer {
@@ -76,9 +77,9 @@ impl PrintBuffer {
         }
     }
 
-    /// Puts characters of one style after the others, where together they must not be wider than the widest line.
+    /// Puts characters of one style after the others, where together they must fit into the widest line.
     pub fn extend(&mut self, style: Style, text: &[u8])
-        requires room { dots (self.old ++ map (cell style) text.now) ≤ MOST_LINE_DOTS }
+        requires room { IsTrue (fits MOST_LINE_DOTS (self.old ++ map (cell style) text.now)) }
         requires visible { 1 ≤ style.width }
         ensures { self.new ≡ self.old ++ map (cell style) text.now }
     {
@@ -86,9 +87,9 @@ impl PrintBuffer {
         self.cells.extend(style, text);
     }
 
-    /// Puts a cell after the others, where together they must not be wider than the widest line.
+    /// Puts a cell after the others, where together they must fit into the widest line.
     pub fn push(&mut self, cell: Cell)
-        requires room { dots (self.old ++ cell ∷ []) ≤ MOST_LINE_DOTS }
+        requires room { IsTrue (fits MOST_LINE_DOTS (self.old ++ cell ∷ [])) }
         requires visible { 1 ≤ cell.style.width }
         ensures { self.new ≡ self.old ++ cell ∷ [] }
     {

@@ -1,6 +1,6 @@
 use Rattle.std.proofs.Common.{◌≡◌, ℕ, ◌≤◌, length, take, inl, inr, arith, sym, ◌∙◌, ap, length-take, Bool, true, false}
 use Rattle.std.proofs.lemmas.Bool.{cases_lt}
-use Rattle.escpos_paper.proofs.TextRuns.{text_inside}
+use Rattle.escpos_paper.proofs.Fits.{wider_fits}
 use Rattle.escpos_paper.proofs.TextSteps.{text_steps, with_text}
 use Rattle.escpos_paper.specs.Steps.{sheet_on}
 use Rattle.escpos_paper.proofs.paper.Paper.put_text.Goals as goal
@@ -18,8 +18,7 @@ extend-requires-clause-room c =
     let text = take c.min-count.result c.args.text.now in
     let long : length text ≡ c.min-count.result = omega (arith, length-take c.min-count.result c.args.text.now, c.min-count.ensures) in
     let some : 1 ≤ length text = omega (arith, long, room, c.requires.some, c.min-count.ensures) in
-    text_inside c.args.self.now.line_width c.args.self.now.settings.text c.make_room.new.line text c.room_for-room.ensures.most c.requires.narrow some
-    (c.room_for-room.ensures.fit text some (omega (arith, long, c.min-count.ensures)))
+    wider_fits c.args.self.now.line_width _ _ c.room_for-room.ensures.most (c.room_for-room.ensures.fit text some (omega (arith, long, c.min-count.ensures)))
 
 pub returns-clause-count : goal.returns-clause-count
 returns-clause-count c =
