@@ -96,7 +96,7 @@ impl Style {
     /// How wide a character in this style is, in dots.
     pub fn dots(&self) -> usize
         ensures value { result ≡ style_dots self.now }
-        ensures small { result ≤ 3060 }
+        ensures small { result ≤ 100_000 }
     {
         face_dots(self.font) * self.width as usize
     }

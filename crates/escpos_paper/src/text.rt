@@ -24,7 +24,7 @@ use escpos_io::{
 use itoa::Buffer;
 
 /// The most bytes of a line that are appended to a gather at once: all but the dots of a raster. (A row has at most 113
-/// cells of at most 32 bytes, a barcode a content of at most 255 characters of at most 3 bytes.)
+/// cells of at most 36 bytes, a barcode a content of at most 255 characters of at most 3 bytes.)
 const LINE_BYTES: usize = 4096;
 
 const _: () = prove!(LINE_BYTES == 4096);
@@ -321,10 +321,10 @@ fn append_spacing(gather: &mut Gather, spacing: Option<u8>)
 
 // Appends the cells of a row.
 fn append_cells(gather: &mut Gather, cells: &Cells)
-    requires { length gather.old.kept + 3616 ≤ GATHERED_BYTES }
+    requires { length gather.old.kept + 4068 ≤ GATHERED_BYTES }
     ensures kept { gather.new.kept ≡ gather.old.kept ++ cells_text power_on cells.now }
     ensures same_count { gather.new.written ≡ gather.old.written }
-    ensures short { length (cells_text power_on cells.now) ≤ 3616 }
+    ensures short { length (cells_text power_on cells.now) ≤ 4068 }
 {
     let row = cells.as_slice();
     let mut before = Style::power_on();

@@ -59,8 +59,8 @@ unfolding runs runs_drawing
 nothing_left kept x [] none = append-nil kept
 nothing_left kept x (y ∷ ys) none = absurd (some_left (length ys) none)
 
--- A run is at most 3060 dots wide for each of its cells.
-pub wide_on : (x dots n left rest all : ℕ) → dots ≤ 3060 → left + n ≡ rest → x + 3060 * rest ≤ 3060 * all → x + dots * n + 3060 * left ≤ 3060 * all
+-- A run is at most 100,000 dots wide for each of its cells.
+pub wide_on : (x dots n left rest all : ℕ) → dots ≤ 100000 → left + n ≡ rest → x + 100000 * rest ≤ 100000 * all → x + dots * n + 100000 * left ≤ 100000 * all
 wide_on x dots n left rest all narrow back was =
-    let grown : dots * n ≤ 3060 * n = mul-le-mul_right n narrow in
+    let grown : dots * n ≤ 100000 * n = mul-le-mul_right n narrow in
     omega (arith, grown, back, was)

@@ -6,5 +6,5 @@ use Rattle.escpos_picture.proofs.row.dots.Given as goal
 abbrev pub invariant-loop-cell : goal.invariant-loop-cell
 invariant-loop-cell l = record {
   whole : dots l.cells ≡ l.sum + dots (drop l.cell-index l.cells);
-  small : l.sum ≤ 3060 * l.cell-index;
+  small : l.sum ≤ 100000 * l.cell-index;
 }
