@@ -31,6 +31,7 @@ WITH_BYTE = {
     "cut": (b"\x1dV", (0, 1, 48, 49)),
     "smooth": (b"\x1db", range(256)),
     "unidirectional": (b"\x1bU", range(256)),
+    "charspacing": (b"\x1b ", range(256)),
     "devices": (b"\x1b=", range(256)),
     "endsensors": (b"\x1bc3", range(256)),
     "stopsensors": (b"\x1bc4", range(256)),

@@ -51,6 +51,7 @@ reference sets.EndSensors = setting_of (ESC ∷ 0x63 ∷ 0x33 ∷ []) (passes is
 reference sets.StopSensors = setting_of (ESC ∷ 0x63 ∷ 0x34 ∷ []) (passes is_byte) (codes "stopsensors")  -- ESC c 4
 reference sets.PanelButtons = setting_of (ESC ∷ 0x63 ∷ 0x35 ∷ []) (passes is_byte) (codes "buttons")  -- ESC c 5
 reference sets.KanjiOff = setting_of (FS ∷ 0x2E ∷ []) alone (codes "kanji off")  -- FS .
+reference sets.CharacterSpacing = setting_of (ESC ∷ 0x20 ∷ []) (passes is_byte) (codes "charspacing")  -- ESC SP
 
 -- The name that programs print.
 abbrev pub name_of : SettingKind → List ℕ

@@ -90,6 +90,8 @@ pub enum SettingKind {
     PanelButtons,
     /// The end of Kanji mode, in which this printer never is. (Reference: FS .)
     KanjiOff,
+    /// The space to the right of each character, in motion units. It is kept with each character. (Reference: ESC SP.)
+    CharacterSpacing,
 }
 
 /// A row of the table.
@@ -137,6 +139,7 @@ macro_rules! settings {
             StopSensors, ESC, b'c', (Some(b'4')), Byte, 4, "stopsensors";
             PanelButtons, ESC, b'c', (Some(b'5')), Byte, 4, "buttons";
             KanjiOff, FS, b'.', None, Nothing, 4, "kanji off";
+            CharacterSpacing, ESC, b' ', None, Byte, 4, "charspacing";
         }
     };
 }

@@ -87,7 +87,6 @@ line `memory` says that the program ran out of memory.
           10 14     DLE DC4 refused: done ahead of its place in the stream
           18        CAN     refused: page mode
           1B 0C     ESC FF  refused: page mode
-          1B 20     ESC SP  refused: positions in the line
           1B 24     ESC $   refused: positions in the line
           1B 25     ESC %   refused: characters that the host defines
           1B 26     ESC &   refused: characters that the host defines

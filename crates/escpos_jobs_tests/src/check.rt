@@ -292,7 +292,7 @@ const CHECKED_STYLES: [Row; 25] = [
     (b"1B 31", b"fault 1 2 UnknownCommand\n", Status::Refused),
     (b"1B 34", b"fault 1 2 UnknownCommand\n", Status::Refused),
     (b"1B 56 01", b"fault 1 2 UnknownCommand\n", Status::Refused),
-    (b"1B 20 01", b"fault 1 2 UnknownCommand\n", Status::Refused),
+    (b"1B 44 01", b"fault 1 2 UnknownCommand\n", Status::Refused),
     (b"1B 72 01", b"fault 1 2 UnknownCommand\n", Status::Refused),
     (
         b"1D 4C 00 00",

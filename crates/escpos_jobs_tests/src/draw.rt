@@ -29,7 +29,7 @@ text{font-family:\"DejaVu Sans Mono\",Menlo,Consolas,monospace;font-size:20px;wh
 // A stream in hexadecimal, the height of its paper and of its document in dots, and what stands between head and end.
 type Drawn = (&'static str, &'static str, &'static str, &'static str);
 
-const DRAWN: [Drawn; 36] = [
+const DRAWN: [Drawn; 37] = [
     // an empty paper: its margins alone
     ("", "64", "64", ""),
     // a row, 24 dots high, with its base line three quarters down, and a feed of 30 dots from its upper edge
@@ -61,6 +61,13 @@ const DRAWN: [Drawn; 36] = [
         "142",
         "142",
         "<g class=\"row\" transform=\"translate(32,68)\"><text transform=\"matrix(1 0 0 2 0 0)\" textLength=\"12\">A</text></g>\n<g class=\"feed\"/>\n",
+    ),
+    // four dots of space after each of two characters, white on black: the ground has both, the text what is between them
+    (
+        "1B 20 04 1D 42 01 41 42 0A",
+        "94",
+        "94",
+        "<g class=\"row\" transform=\"translate(32,50)\"><path d=\"M0 -18h32v24h-32z\"/><text x=\"0\" class=\"white\" textLength=\"28\">AB</text></g>\n<g class=\"feed\"/>\n",
     ),
     // three motion units are one and a half dots
     (

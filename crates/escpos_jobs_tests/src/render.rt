@@ -195,7 +195,7 @@ fn contents_in_render(rt: HostRuntime) {
 }
 
 // What is new since the second profile.
-const RENDERED_STYLES: [Row; 25] = [
+const RENDERED_STYLES: [Row; 26] = [
     // strike, beside emphasis, by bit 0 alone
     (
         b"1B 45 01 1B 47 01 41 1B 47 02 42 0A",
@@ -325,6 +325,12 @@ const RENDERED_STYLES: [Row; 25] = [
     (
         b"1B21B9 1B7405 1B6102 1B2D02 1D6832 1D7702 1D4802 1D6601 1B4701 1B4700 1D4201 1D4200 1B5203 1B5200 1B7B01 1B7B00 1D6201 1D6200 1B3305 1B32 41 0A 1D6B46023132",
         b"row right [B,2,2,1,2,5]A\nfeed 1\nbars right itf 50 2 below B 12\n",
+        Status::Good,
+    ),
+    // the space after a character
+    (
+        b"1B 20 05 41 1B 20 00 42 0A",
+        b"row left [A,1,1,0,0,0,0,0,0,5]A[A,1,1,0,0,0]B\nfeed 1\n",
         Status::Good,
     ),
     // an alignment in mid-line has no effect on the next line either

@@ -46,6 +46,7 @@ style_stays : (s : Style) (c : Command) → IsTrue (in_profile 2 c) → IsTrue (
 unfolding table
 style_stays s (kind.Set (sets.DoubleStrike, p)) k h = absurd cc
 style_stays s (kind.Set (sets.CharacterSet, p)) k h = absurd cc
+style_stays s (kind.Set (sets.CharacterSpacing, p)) k h = absurd cc
 style_stays s (kind.Set (sets.Reverse, p)) k h = absurd cc
 style_stays s (kind.QrModel n) k h = absurd cc
 style_stays s (kind.QrSize n) k h = absurd cc

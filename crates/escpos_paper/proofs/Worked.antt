@@ -104,6 +104,9 @@ no_reverse h = let clash : false ≡ true = h in cc
 no_character_set : IsSecondCell (cell (record power_on { character_set = 1 }) 0x41) → ⊥
 no_character_set h = let clash : false ≡ true = h in cc
 
+no_character_spacing : IsSecondCell (cell (record power_on { spacing = 1 }) 0x41) → ⊥
+no_character_spacing h = let clash : false ≡ true = h in cc
+
 -- Init drops the line
 init_drops_line : printed 512 (Char 0x41 ∷ Init ∷ Char 0x42 ∷ LineFeed ∷ []) ≡ Row Left false (cell power_on 0x42 ∷ []) ∷ Feed 1 None ∷ []
 init_drops_line = refl
@@ -160,6 +163,17 @@ font_a = ap (map length) (rows_filled 512 (replicate 43 (Char 0x61)))
 
 font_b : map length (rows 512 (set sets.Font 1 ∷ replicate 57 (Char 0x61))) ≡ 56 ∷ 1 ∷ []
 font_b = ap (map length) (rows_filled 512 (set sets.Font 1 ∷ replicate 57 (Char 0x61)))
+
+-- 32 fill it with 4 dots of space after each, and 16 at width 2, which magnifies the space
+spaced : map length (rows 512 (set sets.CharacterSpacing 4 ∷ replicate 33 (Char 0x61))) ≡ 32 ∷ 1 ∷ []
+spaced = ap (map length) (rows_filled 512 (set sets.CharacterSpacing 4 ∷ replicate 33 (Char 0x61)))
+
+spaced_double : map length (rows 512 (set sets.CharacterSpacing 4 ∷ set sets.Size 0x10 ∷ replicate 17 (Char 0x61))) ≡ 16 ∷ 1 ∷ []
+spaced_double = ap (map length) (rows_filled 512 (set sets.CharacterSpacing 4 ∷ set sets.Size 0x10 ∷ replicate 17 (Char 0x61)))
+
+-- a character of 2,136 dots is alone in its row
+spaced_alone : map length (rows 1024 (set sets.CharacterSpacing 255 ∷ set sets.Size 0x70 ∷ replicate 2 (Char 0x61))) ≡ 1 ∷ 1 ∷ []
+spaced_alone = ap (map length) (rows_filled 1024 (set sets.CharacterSpacing 255 ∷ set sets.Size 0x70 ∷ replicate 2 (Char 0x61)))
 
 -- other widths: 384 dots, 576 and the most, 1,024
 narrow_paper : map length (rows 384 (replicate 33 (Char 0x61))) ≡ 32 ∷ 1 ∷ []

@@ -1,5 +1,5 @@
 -- The cells of the line: its text, each character with the style that the commands before it have set.
-use Rattle.std.specs.Prelude.{ℕ, ◌*◌, List, [], ◌∷◌, ◌++◌, map, sum_by, if◌then◌else◌}
+use Rattle.std.specs.Prelude.{ℕ, ◌+◌, ◌*◌, List, [], ◌∷◌, ◌++◌, map, sum_by, if◌then◌else◌}
 use Rattle.escpos_command.specs.declared.command.Command.{Command}
 use Rattle.escpos_command.specs.declared.parameter.choices.FontFace.{FontFace}
 use Rattle.escpos_command.specs.declared.parameter.choices.FontFace.TheVariants.{A, B}
@@ -25,9 +25,9 @@ abbrev pub face_dots : FontFace → ℕ
 face_dots A = 12
 face_dots B = 9
 
--- How wide a character in a style is at width 1.
+-- How wide a character in a style is at width 1, with the space to its right. (Reference: ESC SP.)
 abbrev pub narrow_dots : Style → ℕ
-narrow_dots s = face_dots s.font
+narrow_dots s = face_dots s.font + s.spacing
 
 -- How wide it is.
 abbrev pub style_dots : Style → ℕ

@@ -35,14 +35,19 @@ face_name B = codes "B"
 abbrev pub flag_text : Bool → List ℕ
 flag_text b = if b then codes "1" else codes "0"
 
--- Strike, reverse and character set are as at power on.
+-- Strike, reverse, character set and spacing are as at power on.
 abbrev pub has_six_fields : Style → Bool
-has_six_fields s = not s.strike && not s.reverse && s.character_set == 0
+has_six_fields s = not s.strike && not s.reverse && s.character_set == 0 && s.spacing == 0
+
+-- The space to the right of a character is a field where there is one.
+abbrev pub spacing_field : Style → List ℕ
+spacing_field s = if s.spacing == 0 then [] else codes "," ++ decimal s.spacing
 
 -- Otherwise they are fields, too.
 abbrev pub further_fields : Style → List ℕ
 further_fields s =
-    if has_six_fields s then [] else codes "," ++ flag_text s.strike ++ codes "," ++ flag_text s.reverse ++ codes "," ++ decimal s.character_set
+    if has_six_fields s then [] else
+    codes "," ++ flag_text s.strike ++ codes "," ++ flag_text s.reverse ++ codes "," ++ decimal s.character_set ++ spacing_field s
 
 abbrev pub six_fields : Style → List ℕ
 six_fields s =
@@ -50,7 +55,8 @@ six_fields s =
     ++ codes "," ++ decimal s.underline ++ codes "," ++ decimal s.table
 
 -- A style: [F,W,H,B,U,T] with the font A or B, width, height, emphasis as 1 or 0, underline and table; or
--- [F,W,H,B,U,T,S,R,C], with strike and reverse as 1 or 0, and character set.
+-- [F,W,H,B,U,T,S,R,C], with strike and reverse as 1 or 0, and character set; or [F,W,H,B,U,T,S,R,C,N], with the space to the
+-- right of the character.
 abbrev pub style_text : Style → List ℕ
 style_text s = codes "[" ++ six_fields s ++ further_fields s ++ codes "]"
 

@@ -1,5 +1,5 @@
 -- The settings after a list of commands. For each attribute the last command that sets it decides, of those
--- after the last Init; where none sets it, it has its power-on value. (Reference: ESC !, ESC -, ESC E,
+-- after the last Init; where none sets it, it has its power-on value. (Reference: ESC SP, ESC !, ESC -, ESC E,
 -- ESC G, ESC M, ESC R, ESC a, ESC t, ESC {, ESC 2, ESC 3, GS !, GS B, GS h, GS w, GS H, GS f, GS ( k, ESC @.)
 use Rattle.std.specs.Prelude.{ℕ, ◌==◌, ◌&&◌, not, Bool, true, false, List, [], ◌∷◌, Option, None, Some, if◌then◌else◌}
 use Rattle.std.specs.Option.{unwrap_or}
@@ -67,6 +67,11 @@ abbrev pub sets_character_set : Command → Option ℕ
 sets_character_set (kind.Set (sets.CharacterSet, p)) = Some (value p)
 sets_character_set _ = None
 
+-- The space to the right of each character.
+abbrev pub sets_character_spacing : Command → Option ℕ
+sets_character_spacing (kind.Set (sets.CharacterSpacing, p)) = Some (value p)
+sets_character_spacing _ = None
+
 abbrev pub sets_alignment : Command → Option Alignment
 sets_alignment (kind.Set (sets.Align, p)) = Some (alignment_of (choice (value p)))
 sets_alignment _ = None
@@ -121,6 +126,7 @@ power_on = record {
   strike = false;
   reverse = false;
   character_set = 0;
+  spacing = 0;
 }
 
 -- All its settings. Init restores them.
@@ -147,6 +153,7 @@ abbrev pub same_style : Style → Style → Bool
 same_style s t =
     s.table == t.table && same_face s.font t.font && s.width == t.width && s.height == t.height && same_flag s.bold t.bold
     && s.underline == t.underline && same_flag s.strike t.strike && same_flag s.reverse t.reverse && s.character_set == t.character_set
+    && s.spacing == t.spacing
 
 -- The style that a character after the commands gets.
 abbrev pub style : List Command → Style
@@ -160,6 +167,7 @@ style cs = record {
   strike = setting sets_strike power_on.strike cs;
   reverse = setting sets_reverse power_on.reverse cs;
   character_set = setting sets_character_set power_on.character_set cs;
+  spacing = setting sets_character_spacing power_on.spacing cs;
 }
 
 -- The value of an attribute after a command.
@@ -178,6 +186,7 @@ style_after s c = record {
   strike = set_after sets_strike power_on.strike s.strike c;
   reverse = set_after sets_reverse power_on.reverse s.reverse c;
   character_set = set_after sets_character_set power_on.character_set s.character_set c;
+  spacing = set_after sets_character_spacing power_on.spacing s.spacing c;
 }
 
 -- The settings that a barcode after the commands gets.

@@ -72,11 +72,13 @@ pub struct Style {
     pub reverse: bool,
     /// The number of the international character set, 0 to 17.
     pub character_set: u8,
+    /// The space to the right of a character, in dots at width 1.
+    pub spacing: u8,
 }
 
 impl Style {
     /// The style of a printer just switched on: table 0, font A, size 1 by 1, no emphasis, no underline, no
-    /// double strike, black on white, character set 0.
+    /// double strike, black on white, character set 0, no space between characters.
     pub fn power_on() -> Self
         ensures { result ≡ power_on }
     {
@@ -90,15 +92,16 @@ impl Style {
             strike: false,
             reverse: false,
             character_set: 0,
+            spacing: 0,
         }
     }
 
-    /// How wide a character in this style is, in dots.
+    /// How wide a character in this style is with the space to its right, in dots.
     pub fn dots(&self) -> usize
         ensures value { result ≡ style_dots self.now }
         ensures small { result ≤ 100_000 }
     {
-        face_dots(self.font) * self.width as usize
+        (face_dots(self.font) + self.spacing as usize) * self.width as usize
     }
 
     /// A character in this style.
@@ -124,6 +127,7 @@ impl Style {
             & (self.strike == other.strike)
             & (self.reverse == other.reverse)
             & (self.character_set == other.character_set)
+            & (self.spacing == other.spacing)
     }
 
     /// The style after a setting of this kind with this parameter. One that sets nothing of a character leaves it.
@@ -160,6 +164,10 @@ impl Style {
             },
             SettingKind::CharacterSet => Style {
                 character_set: value,
+                ..self
+            },
+            SettingKind::CharacterSpacing => Style {
+                spacing: value,
                 ..self
             },
             _ => self,

@@ -9,7 +9,7 @@ ghost use Rattle.escpos_command.specs.QrCodes.{most_qr_data};
 ghost use Rattle.escpos_io.specs.Giving.{IsGiven};
 ghost use Rattle.escpos_io.specs.Putting.{passage};
 ghost use Rattle.escpos_paper.specs.Styles.{power_on};
-ghost use Rattle.escpos_paper.specs.ItemsText.{byte_text, style_text, face_name, flag_text, six_fields, has_six_fields, further_fields, cell_text, cells_text, align_name, symbology_name, place_name, scale_name, settings_text, content_text, correction_name, cut_name, upside_text, spacing_text, item_text};
+ghost use Rattle.escpos_paper.specs.ItemsText.{spacing_field, byte_text, style_text, face_name, flag_text, six_fields, has_six_fields, further_fields, cell_text, cells_text, align_name, symbology_name, place_name, scale_name, settings_text, content_text, correction_name, cut_name, upside_text, spacing_text, item_text};
 ghost use Rattle.escpos_paper.specs.ItemParts.{front, dots_of, characters_of};
 
 use crate::cell::{Cell, Cells};
@@ -337,10 +337,10 @@ fn append_cells(gather: &mut Gather, cells: &Cells)
 // Appends a cell that follows one of the style `before`.
 #[inline]
 fn append_cell(gather: &mut Gather, before: &Style, cell: &Cell)
-    requires { length gather.old.kept + 32 ≤ GATHERED_BYTES }
+    requires { length gather.old.kept + 36 ≤ GATHERED_BYTES }
     ensures kept { gather.new.kept ≡ gather.old.kept ++ cell_text before.now cell.now }
     ensures same_count { gather.new.written ≡ gather.old.written }
-    ensures short { length (cell_text before.now cell.now) ≤ 32 }
+    ensures short { length (cell_text before.now cell.now) ≤ 36 }
 {
     if !before.is_same(&cell.style) {
         append_style(gather, &cell.style);
@@ -350,10 +350,10 @@ fn append_cell(gather: &mut Gather, before: &Style, cell: &Cell)
 
 #[inline(never)]
 fn append_style(gather: &mut Gather, style: &Style)
-    requires { length gather.old.kept + 29 ≤ GATHERED_BYTES }
+    requires { length gather.old.kept + 33 ≤ GATHERED_BYTES }
     ensures kept { gather.new.kept ≡ gather.old.kept ++ style_text style.now }
     ensures same_count { gather.new.written ≡ gather.old.written }
-    ensures short { length (style_text style.now) ≤ 29 }
+    ensures short { length (style_text style.now) ≤ 33 }
 {
     gather.push(b'[');
     append_six_fields(gather, style);
@@ -376,12 +376,12 @@ fn append_six_fields(gather: &mut Gather, style: &Style)
     append_attribute(gather, style.table);
 }
 
-// Appends the fields for strike, reverse and character set, unless these are as at power on.
+// Appends the fields for strike, reverse, character set and spacing, unless these are as at power on.
 fn append_further_fields(gather: &mut Gather, style: &Style)
-    requires { length gather.old.kept + 8 ≤ GATHERED_BYTES }
+    requires { length gather.old.kept + 12 ≤ GATHERED_BYTES }
     ensures kept { gather.new.kept ≡ gather.old.kept ++ further_fields style.now }
     ensures same_count { gather.new.written ≡ gather.old.written }
-    ensures short { length (further_fields style.now) ≤ 8 }
+    ensures short { length (further_fields style.now) ≤ 12 }
 {
     if has_six_fields(style) {
         return;
@@ -391,13 +391,26 @@ fn append_further_fields(gather: &mut Gather, style: &Style)
     gather.push(b',');
     gather.extend(flag_text(style.reverse));
     append_attribute(gather, style.character_set);
+    append_character_spacing(gather, style);
 }
 
-// Whether strike, reverse and character set are as at power on.
+// Appends the field for the space to the right of a character, where there is one.
+fn append_character_spacing(gather: &mut Gather, style: &Style)
+    requires { length gather.old.kept + 4 ≤ GATHERED_BYTES }
+    ensures kept { gather.new.kept ≡ gather.old.kept ++ spacing_field style.now }
+    ensures same_count { gather.new.written ≡ gather.old.written }
+    ensures short { length (spacing_field style.now) ≤ 4 }
+{
+    if style.spacing != 0 {
+        append_attribute(gather, style.spacing);
+    }
+}
+
+// Whether strike, reverse, character set and spacing are as at power on.
 fn has_six_fields(style: &Style) -> bool
     ensures { result ≡ has_six_fields style.now }
 {
-    !style.strike && !style.reverse && style.character_set == 0
+    !style.strike && !style.reverse && style.character_set == 0 && style.spacing == 0
 }
 
 fn face_name(face: FontFace) -> &'static [u8]

@@ -5,7 +5,7 @@ use Rattle.escpos_command.specs.declared.parameter.choices.FontFace.{FontFace}
 use Rattle.escpos_paper.specs.declared.cell.Cell.{Cell}
 use Rattle.escpos_paper.specs.declared.style.Style.{Style}
 use Rattle.escpos_paper.specs.Styles.{same_style}
-use Rattle.escpos_paper.specs.Cells.{face_dots, style_dots}
+use Rattle.escpos_paper.specs.Cells.{narrow_dots, style_dots}
 use Rattle.escpos_picture.specs.Characters.{byte_text}
 use Rattle.escpos_picture.specs.Numbers.{quarters}
 use Rattle.escpos_picture.specs.Places.{face_height}
@@ -66,12 +66,16 @@ text_class s = class_of s.font (s.bold || s.strike) s.reverse
 abbrev pub characters_text : ℕ → ℕ → List ℕ → List ℕ
 characters_text set table bytes = flat_map (byte_text set table) bytes
 
--- The tag before a run's characters. As wide as the run they are, whatever font the viewer has.
+-- The tag before a run's characters. They are as wide as the run, whatever font the viewer has.
 unfoldable pub text_start : ℕ → Style → List ℕ
 text_start x s = codes "<text" ++ text_place x s ++ text_class s
 
+-- How wide the characters of a run are before they are scaled: no space follows the last one.
+abbrev pub text_dots : Run → ℕ
+text_dots r = narrow_dots r.style * length r.bytes - r.style.spacing
+
 unfoldable pub run_tag : ℕ → Run → List ℕ
-run_tag x r = text_start x r.style ++ codes " textLength=\"" ++ decimal (face_dots r.style.font * length r.bytes) ++ codes "\">"
+run_tag x r = text_start x r.style ++ codes " textLength=\"" ++ decimal (text_dots r) ++ codes "\">"
 
 abbrev pub run_text : ℕ → Run → List ℕ
 run_text x r = run_tag x r ++ characters_text r.style.character_set r.style.table r.bytes ++ codes "</text>"

@@ -222,10 +222,12 @@ fn append_run_tag(gather: &mut Gather, x: usize, style: &Style, cells: &[Cell])
     ensures short { length gather.new.kept ≤ length gather.old.kept + 121 }
 {
     append_text_start(gather, x, style);
+    let spacing = style.spacing as usize;
+    let dots = (face_dots(style.font) + spacing) * cells.len();
     append_between(
         gather,
         b" textLength=\"",
-        face_dots(style.font) * cells.len(),
+        dots.saturating_sub(spacing),
         b"\">",
     );
 }

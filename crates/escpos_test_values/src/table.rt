@@ -1,7 +1,7 @@
 //! The command table, a spelling for each row.
 
 // A spelling of each row of the command table, with a barcode of each symbology in each form.
-const SPELLINGS: [&[u8]; 57] = [
+const SPELLINGS: [&[u8]; 58] = [
     b"A",
     b"\x0A",
     b"\x0D",
@@ -59,6 +59,7 @@ const SPELLINGS: [&[u8]; 57] = [
     b"\x1Bc4\x00",
     b"\x1Bc5\x00",
     b"\x1C.",
+    b"\x1B \x05",
 ];
 
 /// A spelling of each row of the command table, with a barcode of each symbology in each form.

@@ -14,7 +14,7 @@ type Row = (
     &'static str,
 );
 
-const REFERENCE: [Row; 22] = [
+const REFERENCE: [Row; 23] = [
     (SettingKind::Mode, &[0x1B, 0x21], &[0, 255], &[], "mode"),
     (
         SettingKind::Emphasis,
@@ -156,6 +156,13 @@ const REFERENCE: [Row; 22] = [
         &[0, 255],
         &[],
         "buttons",
+    ),
+    (
+        SettingKind::CharacterSpacing,
+        &[0x1B, 0x20],
+        &[0, 255],
+        &[],
+        "charspacing",
     ),
 ];
 

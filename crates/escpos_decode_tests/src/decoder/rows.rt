@@ -95,7 +95,7 @@ fn unknown_bytes(rt: HostRuntime) {
 fn letters_of_no_command(rt: HostRuntime) {
     let why = FaultReason::UnknownCommand;
     for bytes in [
-        [0x1B, 0x20],
+        [0x1B, 0x4B],
         [0x1B, 0x56],
         [0x1D, 0x4C],
         [0x1D, 0x57],

@@ -58,8 +58,8 @@ fn every_byte_in_qr_codes(rt: HostRuntime) {
 }
 
 #[test]
-fn every_byte_in_settings_with_no_effect(rt: HostRuntime) {
-    every_byte_follows(&rt, rt.alloc(), 50, 57);
+fn every_byte_in_settings_of_the_fourth_profile(rt: HostRuntime) {
+    every_byte_follows(&rt, rt.alloc(), 50, 58);
 }
 
 #[test]
@@ -68,7 +68,7 @@ fn all_spellings_in_one_stream(rt: HostRuntime) {
     for spelling in spellings() {
         stream.extend_from_slice(spelling).expect(&rt, "memory");
     }
-    assert!(&rt; spellings().len() == 57);
+    assert!(&rt; spellings().len() == 58);
     agrees(&rt, rt.alloc(), &stream);
 }
 
@@ -92,7 +92,8 @@ fn begins_anew_after_a_fault(rt: HostRuntime) {
 
 // The bytes before a parameter, the parameters that are read there (the least and the greatest, and the
 // ends of each range between them), and their nearest neighbours, which are refused.
-const PARAMETERS: [(&[u8], &[u8], &[u8]); 28] = [
+const PARAMETERS: [(&[u8], &[u8], &[u8]); 29] = [
+    (&[0x1B, 0x20], &[0, 255], &[]),
     (&[0x1B, 0x21], &[0, 255], &[]),
     (&[0x1B, 0x2D], &[0, 2, 48, 50], &[3, 47, 51]),
     (&[0x1B, 0x33], &[0, 255], &[]),

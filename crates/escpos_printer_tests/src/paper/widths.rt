@@ -4,7 +4,7 @@ use crate::support::pages::{Step, plays};
 use escpos_command::LineWidth;
 
 // The dots of a line, the bytes of commands before so many characters, and how many stand in each row.
-const ROWS: [(u16, &[u8], usize, &[usize]); 13] = [
+const ROWS: [(u16, &[u8], usize, &[usize]); 16] = [
     (512, b"", 43, &[42, 1]),
     (384, b"", 33, &[32, 1]),
     (384, b"\x1BM\x01", 43, &[42, 1]),
@@ -20,6 +20,10 @@ const ROWS: [(u16, &[u8], usize, &[usize]); 13] = [
     (23, b"", 2, &[1, 1]),
     (24, b"", 3, &[2, 1]),
     (95, b"\x1D!\x70", 2, &[1, 1]),
+    // the space after a character counts, magnified as the character is
+    (512, b"\x1B \x04", 33, &[32, 1]),
+    (512, b"\x1B \x04\x1D!\x10", 17, &[16, 1]),
+    (1024, b"\x1B \xFF\x1D!\x70", 2, &[1, 1]),
 ];
 
 #[test]

@@ -8,4 +8,4 @@ pub returns-clause-kept : goal.returns-clause-kept
 unfolding run_tag
 returns-clause-kept c =
     let count : length (bytes_of c.args.cells.now) ≡ length c.args.cells.now = length-map c.args.cells.now (λ (x : Cell). x.byte) in
-    rw (c.append_between.ensures.kept, c.append_text_start.ensures.kept, c.face_dots.ensures.value, count) simp append_assoc
+    rw (c.append_between.ensures.kept, c.append_text_start.ensures.kept, c.saturating_sub.ensures, c.face_dots.ensures.value, count) simp append_assoc
