@@ -1,7 +1,8 @@
 //! What one command does to the paper, the settings and the line.
 //!
 //! `Paper::carry_out` has an arm for every kind of command, and is the only function of this crate that has; `Paper::set` has one
-//! for each setting of lines and barcodes, and `Style::after` for each of characters. `page` makes room for the items first, so nothing here can fail.
+//! for each setting of lines and barcodes, and `Style::after` for each of characters. `page` makes room for the items first, so
+//! nothing here can fail.
 
 ghost use Rattle.std.specs.Prelude.{◌≡◌, ◌+◌, ◌≤◌, ℕ, IsTrue, [], ◌∷◌, ◌++◌, length, map, take, if◌then◌else◌, None, true, vec_len, vec_capacity};
 ghost use Rattle.escpos_command.specs.declared.command.Command.TheVariants as kind;
@@ -9,7 +10,7 @@ ghost use Rattle.escpos_command.specs.declared.command.Command.TheVariants.{Set}
 ghost use Rattle.escpos_command.specs.Meanings.{leaves_a_point};
 ghost use Rattle.escpos_command.specs.Settings.{sets_stored};
 ghost use Rattle.escpos_command.specs.Text.{is_some};
-ghost use Rattle.escpos_paper.specs.Printed.{row_of, row_and_feed, prints_stored};
+ghost use Rattle.escpos_paper.specs.Printed.{row_of, row_and_feed, bars_item, raster_item, prints_stored};
 ghost use Rattle.escpos_paper.specs.declared.item.Item.TheVariants as item;
 ghost use Rattle.escpos_paper.specs.Rows.{fits};
 ghost use Rattle.escpos_paper.specs.Styles.{power_on_settings, is_empty, set_after};
@@ -22,7 +23,9 @@ use crate::item::Item;
 use crate::print_buffer::PrintBuffer;
 use crate::qr_store::QrStore;
 use crate::style::{LineStyle, Settings, Style};
-use escpos_command::{Command, Cut, LineWidth, SettingKind, choice, face_of, hri_position_of};
+use escpos_command::{
+    Bars, Command, Cut, LineWidth, Raster, SettingKind, choice, face_of, hri_position_of,
+};
 use std::alloc::Global;
 
 /// The most items that one command prints: a row, a feed and a barcode, a raster, a QR code or a cut.
@@ -97,19 +100,12 @@ impl Paper {
                     cell,
                 );
             }
-            Command::LineFeed => self.feed(self.feed_of(1)),
-            Command::FeedLines(lines) => self.feed(self.feed_of(lines.byte())),
-            Command::FeedUnits(units) => self.feed(Item::FeedUnits(units.byte())),
-            Command::Bars(bars) => self.print(bars_item(
-                self.settings.lines.alignment,
-                self.settings.bars,
-                bars,
-            )),
-            Command::Raster(raster) => self.print(raster_item(
-                self.settings.lines.alignment,
-                raster,
-            )),
-            Command::Cut(cut) => self.print(cut_item(cut)),
+            Command::LineFeed => self.feed_lines(1),
+            Command::FeedLines(lines) => self.feed_lines(lines.byte()),
+            Command::FeedUnits(units) => self.feed_units(units.byte()),
+            Command::Bars(bars) => self.print_bars(bars),
+            Command::Raster(raster) => self.print_raster(raster),
+            Command::Cut(cut) => self.print_cut(cut),
             Command::QrPrint => self.print_stored(),
             Command::QrStore(stored) => self.store.store(stored),
             Command::QrModel(model) => self.settings.codes.model = model.number(),
@@ -174,17 +170,41 @@ impl Paper {
         count
     }
 
-    // A feed of this many lines, in the spacing that is set.
-    fn feed_of(&self, lines: u8) -> Item
-        ensures { result ≡ item.Feed lines self.now.settings.lines.spacing }
+    // What makes an item isn't inlined: its room is large, and would be cleared for each command.
+
+    // Prints the line and then a feed of this many lines, in the spacing that is set.
+    #[inline(never)]
+    fn feed_lines(&mut self, lines: u8)
+        requires { vec_len self.old.items + 2 ≤ vec_capacity self.old.items }
+        ensures items { self.new.items.items
+            ≡ self.old.items.items ++ row_of self.old.settings.lines self.old.line ++ item.Feed lines self.old.settings.lines.spacing ∷ [] }
+        ensures line_width { self.new.line_width ≡ self.old.line_width }
+        ensures settings { self.new.settings ≡ self.old.settings }
+        ensures store { self.new.store ≡ self.old.store }
+        ensures line { self.new.line ≡ [] }
     {
-        Item::Feed {
+        self.feed(Item::Feed {
             lines,
             spacing: self.settings.lines.spacing,
-        }
+        });
+    }
+
+    // Prints the line and then a feed of this many motion units.
+    #[inline(never)]
+    fn feed_units(&mut self, units: u8)
+        requires { vec_len self.old.items + 2 ≤ vec_capacity self.old.items }
+        ensures items { self.new.items.items
+            ≡ self.old.items.items ++ row_of self.old.settings.lines self.old.line ++ item.FeedUnits units ∷ [] }
+        ensures line_width { self.new.line_width ≡ self.old.line_width }
+        ensures settings { self.new.settings ≡ self.old.settings }
+        ensures store { self.new.store ≡ self.old.store }
+        ensures line { self.new.line ≡ [] }
+    {
+        self.feed(Item::FeedUnits(units));
     }
 
     // Prints the line and then a feed.
+    #[inline]
     fn feed(&mut self, feed: Item)
         requires { vec_len self.old.items + 2 ≤ vec_capacity self.old.items }
         ensures items { self.new.items.items
@@ -198,7 +218,53 @@ impl Paper {
         self.items.push_reserved(feed);
     }
 
+    // Ends the line and prints a barcode.
+    #[inline(never)]
+    fn print_bars(&mut self, bars: Bars)
+        requires { vec_len self.old.items + MOST_ITEMS ≤ vec_capacity self.old.items }
+        ensures items { self.new.items.items
+            ≡ self.old.items.items ++ row_and_feed self.old.settings.lines self.old.line ++ bars_item self.old.settings.lines.alignment self.old.settings.bars bars ∷ [] }
+        ensures line_width { self.new.line_width ≡ self.old.line_width }
+        ensures settings { self.new.settings ≡ self.old.settings }
+        ensures store { self.new.store ≡ self.old.store }
+        ensures line { self.new.line ≡ [] }
+    {
+        self.print(bars_item(self.settings.lines.alignment, self.settings.bars, bars));
+    }
+
+    // Ends the line and prints a raster.
+    #[inline(never)]
+    fn print_raster(&mut self, raster: Raster)
+        requires { vec_len self.old.items + MOST_ITEMS ≤ vec_capacity self.old.items }
+        ensures items { self.new.items.items
+            ≡ self.old.items.items ++ row_and_feed self.old.settings.lines self.old.line ++ raster_item self.old.settings.lines.alignment raster ∷ [] }
+        ensures line_width { self.new.line_width ≡ self.old.line_width }
+        ensures settings { self.new.settings ≡ self.old.settings }
+        ensures store { self.new.store ≡ self.old.store }
+        ensures line { self.new.line ≡ [] }
+    {
+        self.print(raster_item(self.settings.lines.alignment, raster));
+    }
+
+    // Ends the line and cuts.
+    #[inline(never)]
+    fn print_cut(&mut self, cut: Cut)
+        requires { vec_len self.old.items + MOST_ITEMS ≤ vec_capacity self.old.items }
+        ensures items { self.new.items.items
+            ≡ self.old.items.items ++ row_and_feed self.old.settings.lines self.old.line ++ item.Cut (leaves_a_point cut.0) cut.1 ∷ [] }
+        ensures line_width { self.new.line_width ≡ self.old.line_width }
+        ensures settings { self.new.settings ≡ self.old.settings }
+        ensures store { self.new.store ≡ self.old.store }
+        ensures line { self.new.line ≡ [] }
+    {
+        self.print(Item::Cut {
+            partial: cut.is_partial(),
+            feed: cut.feed(),
+        });
+    }
+
     // Ends the line and prints the QR code of the data that is stored; does nothing if none is.
+    #[inline(never)]
     fn print_stored(&mut self)
         requires room { vec_len self.old.items + MOST_ITEMS ≤ vec_capacity self.old.items }
         requires ready { IsTrue self.old.store.ready }
@@ -221,6 +287,7 @@ impl Paper {
     }
 
     // Ends the line and prints an item below it.
+    #[inline]
     fn print(&mut self, item: Item)
         requires { vec_len self.old.items + MOST_ITEMS ≤ vec_capacity self.old.items }
         ensures items { self.new.items.items
@@ -275,16 +342,6 @@ fn put_cell(
         end_line(items, line, lines);
     }
     line.push(cell);
-}
-
-// A cut as an item.
-fn cut_item(cut: Cut) -> Item
-    ensures { result ≡ item.Cut (leaves_a_point cut.0) cut.1 }
-{
-    Item::Cut {
-        partial: cut.is_partial(),
-        feed: cut.feed(),
-    }
 }
 
 // Prints the line as a row, if it has a cell.
