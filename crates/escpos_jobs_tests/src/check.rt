@@ -1,8 +1,9 @@
 //! The rows of `check`, and long listings.
 
+use crate::support::long::{Long, Text, prints_long};
 use escpos_job_parts::status::Status;
 use escpos_test_jobs::{Row, check_task, performs_rows, prints};
-use escpos_test_receipts::{filled, joined};
+use escpos_test_receipts::filled;
 use std::alloc::Global;
 use std::process::Abort;
 
@@ -313,73 +314,117 @@ fn styles_in_check(rt: HostRuntime) {
     assert!(&rt; performs_rows(rt.alloc(), check_task(), &CHECKED_STYLES, &[1, 4096]));
 }
 
-// Row ean13's first stream.
-const EAN13: &[u8] = b"1D6B0234303036333831333333393300";
-
 // Each proper prefix of row ean13's first stream is a half command.
+const UNFINISHED: [Row; 15] = [
+    (b"1D", b"end 1 pending 1\n", Status::Refused),
+    (b"1D6B", b"end 2 pending 2\n", Status::Refused),
+    (b"1D6B02", b"end 3 pending 3\n", Status::Refused),
+    (b"1D6B0234", b"end 4 pending 4\n", Status::Refused),
+    (b"1D6B023430", b"end 5 pending 5\n", Status::Refused),
+    (b"1D6B02343030", b"end 6 pending 6\n", Status::Refused),
+    (b"1D6B0234303036", b"end 7 pending 7\n", Status::Refused),
+    (b"1D6B023430303633", b"end 8 pending 8\n", Status::Refused),
+    (b"1D6B02343030363338", b"end 9 pending 9\n", Status::Refused),
+    (
+        b"1D6B0234303036333831",
+        b"end 10 pending 10\n",
+        Status::Refused,
+    ),
+    (
+        b"1D6B023430303633383133",
+        b"end 11 pending 11\n",
+        Status::Refused,
+    ),
+    (
+        b"1D6B02343030363338313333",
+        b"end 12 pending 12\n",
+        Status::Refused,
+    ),
+    (
+        b"1D6B0234303036333831333333",
+        b"end 13 pending 13\n",
+        Status::Refused,
+    ),
+    (
+        b"1D6B023430303633383133333339",
+        b"end 14 pending 14\n",
+        Status::Refused,
+    ),
+    (
+        b"1D6B02343030363338313333333933",
+        b"end 15 pending 15\n",
+        Status::Refused,
+    ),
+];
+
+// Each is read at once.
 #[test]
 fn unfinished(rt: HostRuntime) {
-    for length in 1..16 {
-        let line = format!(in rt.alloc(); "end {length} pending {length}\n").expect(&rt, "memory");
-        let wanted = (line.as_bytes(), Status::Refused);
-        assert!(&rt; prints(rt.alloc(), check_task(), &EAN13[..2 * length], wanted));
-    }
+    assert!(&rt; performs_rows(rt.alloc(), check_task(), &UNFINISHED, &[4096]));
 }
 
 // The longest line of a listing: a content of 255 bytes.
+const LONG_BARCODE: [Long; 1] = [(
+    Text::Parts(("1D6B45FF", "39", ""), 255),
+    Text::Parts(("0 bars 45 ", "39", "\nend 259 pending 0\n"), 255),
+    Status::Good,
+)];
+
 #[test]
 fn a_long_barcode(rt: HostRuntime) {
-    let input = joined(rt.alloc(), ["1D6B45FF", "39", ""], 255).expect(&rt, "memory");
-    let parts = ["0 bars 45 ", "39", "\nend 259 pending 0\n"];
-    let listing = joined(rt.alloc(), parts, 255).expect(&rt, "memory");
-    assert!(&rt; prints(rt.alloc(), check_task(), &input, (&listing, Status::Good)));
+    prints_long(&rt, rt.alloc(), check_task(), &LONG_BARCODE);
 }
 
-// A raster of 128 bytes a row: the digits of its head, its rows, how many bytes of dots it has, and what is listed of it, whole
-// and before its last byte.
-type Wide = (&'static [u8], usize, &'static [u8], &'static [u8]);
-
-const LARGEST: Wide = (
-    b"1D7630008000FF0F",
-    524_160,
-    b"0 raster 00 128 4095\nend 524168 pending 0\n",
-    b"end 524167 pending 524167\n",
-);
-
-const OF_2047_ROWS: Wide = (
-    b"1D7630008000FF07",
-    262_016,
-    b"0 raster 00 128 2047\nend 262024 pending 0\n",
-    b"end 262023 pending 262023\n",
-);
-
-// A raster through `check`, whole and without its last byte.
-fn lists_wide(rt: &impl Abort, alloc: Global, (head, count, whole, half): Wide) {
-    let length = count.saturating_mul(2).saturating_add(16);
-    let mut input = filled(alloc, head, b'a', length).expect(rt, "memory");
-    assert!(rt; prints(alloc, check_task(), &input, (whole, Status::Good)));
-    input.truncate(length.saturating_sub(2));
-    assert!(rt; prints(alloc, check_task(), &input, (half, Status::Refused)));
-}
+// A raster of 128 bytes a row through `check`: whole, and without its last byte.
+const LARGEST: [Long; 2] = [
+    (
+        Text::Filled(b"1D7630008000FF0F", b'a', 1_048_336),
+        Text::Whole(b"0 raster 00 128 4095\nend 524168 pending 0\n"),
+        Status::Good,
+    ),
+    (
+        Text::Filled(b"1D7630008000FF0F", b'a', 1_048_334),
+        Text::Whole(b"end 524167 pending 524167\n"),
+        Status::Refused,
+    ),
+];
 
 #[test]
 fn the_largest_raster(rt: HostRuntime) {
-    lists_wide(&rt, rt.alloc(), LARGEST);
+    prints_long(&rt, rt.alloc(), check_task(), &LARGEST);
 }
+
+const OF_2047_ROWS: [Long; 2] = [
+    (
+        Text::Filled(b"1D7630008000FF07", b'a', 524_048),
+        Text::Whole(b"0 raster 00 128 2047\nend 262024 pending 0\n"),
+        Status::Good,
+    ),
+    (
+        Text::Filled(b"1D7630008000FF07", b'a', 524_046),
+        Text::Whole(b"end 262023 pending 262023\n"),
+        Status::Refused,
+    ),
+];
 
 #[test]
 fn a_raster_of_2047_rows(rt: HostRuntime) {
-    lists_wide(&rt, rt.alloc(), OF_2047_ROWS);
+    prints_long(&rt, rt.alloc(), check_task(), &OF_2047_ROWS);
+}
+
+// Adds the line of a character.
+fn adds_line(rt: &impl Abort, alloc: Global, lines: &mut Vec<u8>, place: u32) {
+    let line = format!(in alloc; "{place} char aa\n").expect(rt, "memory");
+    lines
+        .extend_from_slice(line.as_bytes())
+        .expect(rt, "memory");
 }
 
 // The lines of so many characters, and the last line.
 fn many_lines(rt: &impl Abort, alloc: Global, count: u32) -> Vec<u8> {
     let mut lines = Vec::new(alloc);
     for place in 0..count {
-        let line = format!(in alloc; "{place} char aa\n").expect(rt, "memory");
-        lines
-            .extend_from_slice(line.as_bytes())
-            .expect(rt, "memory");
+        adds_line(rt, alloc, &mut lines, place);
     }
     let line = format!(in alloc; "end {count} pending 0\n").expect(rt, "memory");
     lines

@@ -1,6 +1,7 @@
 //! The rows of `draw`: every number of these documents is worked out from the rules of docs/PROFILE.md, not read off.
 
 use escpos_job_parts::status::Status;
+use escpos_jobs::task::Task;
 use escpos_test_jobs::{draw_task, prints, raw_draw_task};
 use std::alloc::Global;
 use std::process::Abort;
@@ -300,31 +301,26 @@ const DRAWN: [Drawn; 37] = [
 ];
 
 // The document of a paper and a document of these heights, with this between head and end.
-fn document(rt: &impl Abort, alloc: Global, paper: &str, height: &str, body: &str) -> Vec<u8> {
-    let head = format!(in alloc;
+fn document(rt: &impl Abort, alloc: Global, paper: &str, height: &str, body: &str) -> String {
+    format!(in alloc;
         "<svg xmlns=\"http://www.w3.org/2000/svg\" version=\"1.1\" width=\"576\" height=\"{height}\" viewBox=\"0 0 576 {height}\" xml:space=\"preserve\">\n{STYLES}<rect class=\"paper\" width=\"576\" height=\"{paper}\"/>\n{body}</svg>\n"
-    ).expect(rt, "memory");
-    let mut text = Vec::new(alloc);
-    text.extend_from_slice(head.as_bytes()).expect(rt, "memory");
-    text
+    ).expect(rt, "memory")
 }
 
-// The picture of a stream is this document.
-fn is_drawn(rt: &impl Abort, alloc: Global, (input, paper, height, body): Drawn) {
+// The picture that a task draws of a stream is this document.
+fn draws(rt: &impl Abort, alloc: Global, task: Task, (input, paper, height, body): Drawn) {
     let status = if paper == height {
         Status::Good
     } else {
         Status::Refused
     };
-    let wanted = document(rt, alloc, paper, height, body);
-    assert!(rt;
-        prints(
-            alloc,
-            draw_task(),
-            input.as_bytes(),
-            (wanted.as_slice(), status)
-        )
-    );
+    let text = document(rt, alloc, paper, height, body);
+    let wanted = (text.as_bytes(), status);
+    assert!(rt; prints(alloc, task, input.as_bytes(), wanted));
+}
+
+fn is_drawn(rt: &impl Abort, alloc: Global, row: Drawn) {
+    draws(rt, alloc, draw_task(), row);
 }
 
 #[test]
@@ -334,27 +330,17 @@ fn rows_of_draw(rt: HostRuntime) {
     }
 }
 
+const BYTES: Drawn = (
+    "A\n",
+    "94",
+    "94",
+    "<g class=\"row\" transform=\"translate(32,50)\"><text x=\"0\" textLength=\"12\">A</text></g>\n<g class=\"feed\"/>\n",
+);
+
 // With `--raw` the same document comes of the bytes; what isn't a picture is the one line that `render` prints.
 #[test]
 fn draws_bytes_and_refuses_input(rt: HostRuntime) {
-    let alloc = rt.alloc();
-    let row =
-        "<g class=\"row\" transform=\"translate(32,50)\"><text x=\"0\" textLength=\"12\">A</text></g>\n<g class=\"feed\"/>\n";
-    let wanted = document(&rt, alloc, "94", "94", row);
-    assert!(&rt;
-        prints(
-            alloc,
-            raw_draw_task(),
-            b"A\n",
-            (wanted.as_slice(), Status::Good)
-        )
-    );
-    assert!(&rt;
-        prints(
-            alloc,
-            draw_task(),
-            b"4",
-            (b"refused hex\n", Status::Refused)
-        )
-    );
+    draws(&rt, rt.alloc(), raw_draw_task(), BYTES);
+    let refused = (b"refused hex\n".as_slice(), Status::Refused);
+    assert!(&rt; prints(rt.alloc(), draw_task(), b"4", refused));
 }

@@ -5,7 +5,8 @@
 //! is proved a second time for them. A test that looks into a value stands in the crate of that value.
 //!
 //! A module for each job or each kind of input; `memory` lets each allocation of a call fail in turn, of all jobs in memory. How a
-//! job is run is in escpos_test_jobs.
+//! job is run is in escpos_test_jobs, and how long texts are made in `support`. Most tests are rows, which are constants where they can
+//! be: one function runs the rows of a job, and owns what it needs.
 #![tactic(auto)]
 
 #[cfg(test)]
@@ -26,5 +27,7 @@ mod qr_codes;
 mod raw;
 #[cfg(test)]
 mod render;
+#[cfg(test)]
+mod support;
 #[cfg(test)]
 mod widths;

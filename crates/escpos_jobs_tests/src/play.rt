@@ -1,45 +1,45 @@
 //! Scripts through `play`: the worked rows of a line, each line of a script with what it prints, and lines that are none.
 
+use crate::support::long::{Long, Text, prints_long};
 use escpos_job_parts::status::Status;
 use escpos_jobs::task::Task;
 use escpos_test_jobs::{Row, performs_rows, prints};
-use escpos_test_receipts::joined;
 
 // straight
-const STRAIGHT: Row = (
+const STRAIGHT: [Row; 1] = [(
     b"linkup\nmove 11\ndeliver 11\nhandover\nanswer 7\nsubmit [{\"line\":\"Hi\"}]\nmove 99\ndeliver 99\nhandover\nanswer 7\n",
     b"ok\nmoved 11\nfed 11 all\nhanded on\nheard 7 opened\nok\nmoved 16\nfed 16 all\nhanded on\nheard 7 recorded 0\n\
       paper\nrow left Hi\nfeed 1\nrecords 1\n",
     Status::Good,
-);
+)];
 
 // lost_answer
-const LOST_ANSWER: Row = (
+const LOST_ANSWER: [Row; 1] = [(
     b"linkup\nmove 11\ndeliver 11\nhandover\nanswer 7\nsubmit [{\"line\":\"Hi\"}]\nmove 16\ndeliver 16\ndrop\nlinkup\nleave\nhandover\nanswer 7\n\
       move 11\ndeliver 11\nhandover\nanswer 7\nsubmit [{\"line\":\"Hi\"}]\nmove 16\ndeliver 16\nhandover\nanswer 7\n",
     b"ok\nmoved 11\nfed 11 all\nhanded on\nheard 7 opened\nok\nmoved 16\nfed 16 all\nok\nok\nok\nhanded on\nheard 7 recorded 0\n\
       moved 11\nfed 11 all\nhanded on\nheard 7 opened\nok\nmoved 16\nfed 16 all\nhanded on\nheard 7 recorded 1\n\
       paper\nrow left Hi\nfeed 1\nrow left Hi\nfeed 1\nrecords 2\n",
     Status::Good,
-);
+)];
 
 // printer_restart
-const PRINTER_RESTART: Row = (
+const PRINTER_RESTART: [Row; 1] = [(
     b"linkup\nmove 11\ndeliver 11\nhandover\nanswer 7\nsubmit [{\"line\":\"Hi\"}]\nmove 16\ndeliver 3\nprinter-restart\ndrop\nlinkup\n\
       move 11\ndeliver 11\nhandover\nanswer 7\nsubmit [{\"line\":\"Hi\"}]\nmove 16\ndeliver 16\nhandover\nanswer 7\n",
     b"ok\nmoved 11\nfed 11 all\nhanded on\nheard 7 opened\nok\nmoved 16\nfed 3 all\nok\nok\nok\n\
       moved 11\nfed 11 all\nhanded on\nheard 7 opened\nok\nmoved 16\nfed 16 all\nhanded on\nheard 7 recorded 0\n\
       paper\nrow left Hi\nfeed 1\nrecords 1\n",
     Status::Good,
-);
+)];
 
 // two_in_flight
-const TWO_IN_FLIGHT: Row = (
+const TWO_IN_FLIGHT: [Row; 1] = [(
     b"linkup\nmove 11\ndeliver 11\nhandover\nanswer 7\nsubmit [{\"line\":\"A\"}]\nsubmit [{\"line\":\"B\"}]\nmove 99\ndeliver 99\nhandover\nhandover\nanswer 14\n",
     b"ok\nmoved 11\nfed 11 all\nhanded on\nheard 7 opened\nok\nok\nmoved 30\nfed 30 all\nhanded on\nhanded on\nheard 14 recorded 1\n\
       paper\nrow left A\nfeed 1\nrow left B\nfeed 1\nrecords 2\n",
     Status::Good,
-);
+)];
 
 // late_for_two: of two receipts that are left the answer for the first is lost, and that for the second comes late
 const LATE_FOR_TWO: Row = (
@@ -61,12 +61,12 @@ const LATE_FOR_TWO_OF_THREE: Row = (
 );
 
 // first_of_two
-const FIRST_OF_TWO: Row = (
+const FIRST_OF_TWO: [Row; 1] = [(
     b"linkup\nmove 11\ndeliver 11\nhandover\nanswer 7\nsubmit [{\"line\":\"A\"}]\nsubmit [{\"line\":\"B\"}]\nmove 99\ndeliver 15\nhandover\nanswer 7\nprinter-restart\n",
     b"ok\nmoved 11\nfed 11 all\nhanded on\nheard 7 opened\nok\nok\nmoved 30\nfed 15 all\nhanded on\nheard 7 recorded 0\nok\n\
       paper\nrow left A\nfeed 1\nrecords 1\n",
     Status::Good,
-);
+)];
 
 // resynchronised: a raster that lacks 22 bytes takes two marks of the next link, and the third opens it
 const RESYNCHRONISED: Row = (
@@ -262,39 +262,41 @@ const ROWS: [Row; 28] = [
 
 #[test]
 fn straight(rt: HostRuntime) {
-    assert!(&rt; performs_rows(rt.alloc(), Task::Play, &[STRAIGHT], &[1, 512]));
+    assert!(&rt; performs_rows(rt.alloc(), Task::Play, &STRAIGHT, &[1, 512]));
 }
 
 #[test]
 fn lost_answer(rt: HostRuntime) {
-    assert!(&rt; performs_rows(rt.alloc(), Task::Play, &[LOST_ANSWER], &[512]));
+    assert!(&rt; performs_rows(rt.alloc(), Task::Play, &LOST_ANSWER, &[512]));
 }
 
 #[test]
 fn printer_restart(rt: HostRuntime) {
-    assert!(&rt; performs_rows(rt.alloc(), Task::Play, &[PRINTER_RESTART], &[512]));
+    assert!(&rt; performs_rows(rt.alloc(), Task::Play, &PRINTER_RESTART, &[512]));
 }
 
 #[test]
 fn two_in_flight(rt: HostRuntime) {
-    assert!(&rt; performs_rows(rt.alloc(), Task::Play, &[TWO_IN_FLIGHT], &[512]));
+    assert!(&rt; performs_rows(rt.alloc(), Task::Play, &TWO_IN_FLIGHT, &[512]));
 }
+
+const LATE: [Row; 2] = [LATE_FOR_TWO, LATE_FOR_TWO_OF_THREE];
 
 #[test]
 fn late_for_two(rt: HostRuntime) {
-    let rows = [LATE_FOR_TWO, LATE_FOR_TWO_OF_THREE];
-    assert!(&rt; performs_rows(rt.alloc(), Task::Play, &rows, &[512]));
+    assert!(&rt; performs_rows(rt.alloc(), Task::Play, &LATE, &[512]));
 }
 
 #[test]
 fn first_of_two(rt: HostRuntime) {
-    assert!(&rt; performs_rows(rt.alloc(), Task::Play, &[FIRST_OF_TWO], &[512]));
+    assert!(&rt; performs_rows(rt.alloc(), Task::Play, &FIRST_OF_TWO, &[512]));
 }
+
+const RESYNCHRONISED_TWICE: [Row; 2] = [RESYNCHRONISED, RESYNCHRONISED_STORE];
 
 #[test]
 fn resynchronised(rt: HostRuntime) {
-    let rows = [RESYNCHRONISED, RESYNCHRONISED_STORE];
-    assert!(&rt; performs_rows(rt.alloc(), Task::Play, &rows, &[512]));
+    assert!(&rt; performs_rows(rt.alloc(), Task::Play, &RESYNCHRONISED_TWICE, &[512]));
 }
 
 #[test]
@@ -345,20 +347,32 @@ fn unreadable_lines(rt: HostRuntime) {
     }
 }
 
+const FAR: [Long; 1] = [(
+    Text::Parts(("", "leave\n", "leave \n"), 120),
+    Text::Parts(("", "ok\n", "line 121 unreadable\npaper\nrecords 0\n"), 120),
+    Status::Refused,
+)];
+
 #[test]
 fn far_into_a_script(rt: HostRuntime) {
-    let script = joined(rt.alloc(), ["", "leave\n", "leave \n"], 120).expect(&rt, "memory");
-    let end = "line 121 unreadable\npaper\nrecords 0\n";
-    let told = joined(rt.alloc(), ["", "ok\n", end], 120).expect(&rt, "memory");
-    assert!(&rt; prints(rt.alloc(), Task::Play, &script, (&told, Status::Refused)));
+    prints_long(&rt, rt.alloc(), Task::Play, &FAR);
 }
 
 // A line of more than a mebibyte: JSON takes blanks anywhere.
+const LONG_LINE: [Long; 1] = [(
+    Text::Parts(
+        (
+            "submit [",
+            "                                                                ",
+            "{\"line\":\"A\"}]\n",
+        ),
+        20_000,
+    ),
+    Text::Whole(b"refused 1 NotReady\npaper\nrecords 0\n"),
+    Status::Good,
+)];
+
 #[test]
 fn long_line(rt: HostRuntime) {
-    let blanks = "                                                                ";
-    let parts = ["submit [", blanks, "{\"line\":\"A\"}]\n"];
-    let script = joined(rt.alloc(), parts, 20_000).expect(&rt, "memory");
-    let told = b"refused 1 NotReady\npaper\nrecords 0\n".as_slice();
-    assert!(&rt; prints(rt.alloc(), Task::Play, &script, (told, Status::Good)));
+    prints_long(&rt, rt.alloc(), Task::Play, &LONG_LINE);
 }

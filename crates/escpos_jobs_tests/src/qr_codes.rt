@@ -1,9 +1,11 @@
 //! QR codes through `check` and `render`.
 
+use crate::support::long::{Long, Parts, Text, bytes_of, prints_long};
 use escpos_io::MemoryIn;
 use escpos_job_parts::status::Status;
-use escpos_test_jobs::{Row, check_task, performs, performs_rows, prints, render_task};
-use escpos_test_receipts::joined;
+use escpos_test_jobs::{Row, check_task, performs, performs_rows, render_task};
+use std::alloc::Global;
+use std::process::Abort;
 
 // Streams, and the listing of their commands.
 const CHECKED: [Row; 37] = [
@@ -257,68 +259,92 @@ fn qr_codes_in_render(rt: HostRuntime) {
 }
 
 // What comes before the longest data, that data in part, and what comes after it.
-const LONGEST: [&str; 3] = ["1D286BB41B315030", "1b", ""];
+const LONGEST: Parts = ("1D286BB41B315030", "1b", "");
+
+// The line that lists it.
+const LISTED: Parts = ("0 qrstore ", "1b", "\n");
 
 // The longest store through `check`: whole, without its last byte, and with a byte after it.
+const LONGEST_STORES: [Long; 3] = [
+    (
+        Text::Parts(LONGEST, 7089),
+        Text::Parts(("0 qrstore ", "1b", "\nend 7097 pending 0\n"), 7089),
+        Status::Good,
+    ),
+    (
+        Text::Parts(LONGEST, 7088),
+        Text::Whole(b"end 7096 pending 7096\n"),
+        Status::Refused,
+    ),
+    (
+        Text::Parts(("1D286BB41B315030", "1b", "0A"), 7089),
+        Text::Parts(
+            ("0 qrstore ", "1b", "\n7097 lf\nend 7098 pending 0\n"),
+            7089,
+        ),
+        Status::Good,
+    ),
+];
+
 #[test]
 fn the_longest_store_in_check(rt: HostRuntime) {
-    let whole = joined(rt.alloc(), LONGEST, 7089).expect(&rt, "memory");
-    let parts = ["0 qrstore ", "1b", "\nend 7097 pending 0\n"];
-    let listing = joined(rt.alloc(), parts, 7089).expect(&rt, "memory");
-    let wanted = (listing.as_slice(), Status::Good);
-    assert!(&rt; prints(rt.alloc(), check_task(), &whole, wanted));
-    let short = joined(rt.alloc(), LONGEST, 7088).expect(&rt, "memory");
-    let wanted = (b"end 7096 pending 7096\n".as_slice(), Status::Refused);
-    assert!(&rt; prints(rt.alloc(), check_task(), &short, wanted));
-    let longer = joined(rt.alloc(), ["1D286BB41B315030", "1b", "0A"], 7089).expect(&rt, "memory");
-    let parts = ["0 qrstore ", "1b", "\n7097 lf\nend 7098 pending 0\n"];
-    let listing = joined(rt.alloc(), parts, 7089).expect(&rt, "memory");
-    let wanted = (listing.as_slice(), Status::Good);
-    assert!(&rt; prints(rt.alloc(), check_task(), &longer, wanted));
+    prints_long(&rt, rt.alloc(), check_task(), &LONGEST_STORES);
+}
+
+// A sink that takes so many bytes has the beginning of a listing.
+fn is_cut_short(rt: &impl Abort, alloc: Global, (input, listing): (&[u8], &[u8]), count: usize) {
+    let mut room = [0; 14_189];
+    let mut source = MemoryIn::new(input, 4096);
+    let wanted = (listing.get(..count).expect(rt, "listing"), Status::Device);
+    let room = &mut room[..count.min(14_189)];
+    assert!(rt;
+        performs(alloc, Ok(check_task()), &mut source, room, wanted),
+        "{count}"
+    );
+}
+
+fn is_cut_short_anywhere(rt: &impl Abort, alloc: Global, texts: (&[u8], &[u8])) {
+    for count in [0, 9, 10, 11, 1024, 14_188] {
+        is_cut_short(rt, alloc, texts, count);
+    }
 }
 
 // Wherever the sink is full, what went out is the beginning of the listing.
 #[test]
 fn a_long_store_cut_short(rt: HostRuntime) {
-    let whole = joined(rt.alloc(), LONGEST, 7089).expect(&rt, "memory");
-    let listing = joined(rt.alloc(), ["0 qrstore ", "1b", "\n"], 7089).expect(&rt, "memory");
-    let mut room = [0; 14_189];
-    for count in [0, 9, 10, 11, 1024, 14_188] {
-        let mut source = MemoryIn::new(&whole, 4096);
-        let part = listing.get(..count).expect(&rt, "listing");
-        let wanted = (part, Status::Device);
-        let room = &mut room[..count];
-        assert!(&rt; performs(rt.alloc(), Ok(check_task()), &mut source, room, wanted));
-    }
+    let whole = bytes_of(rt.alloc(), Text::Parts(LONGEST, 7089)).expect(&rt, "memory");
+    let listing = bytes_of(rt.alloc(), Text::Parts(LISTED, 7089)).expect(&rt, "memory");
+    is_cut_short_anywhere(&rt, rt.alloc(), (&whole, &listing));
 }
 
 // The longest store, and two prints, through `render`.
+const LONGEST_CONTENT: [Long; 1] = [(
+    Text::Parts(
+        ("1D286BB41B315030", "37", "1D286B03003151301D286B0300315130"),
+        7089,
+    ),
+    Text::Times(("qr left 2 3 L ", "7", "\n"), 7089, 2, ""),
+    Status::Good,
+)];
+
 #[test]
 fn the_longest_content_in_render(rt: HostRuntime) {
-    let prints_twice = "1D286B03003151301D286B0300315130";
-    let parts = ["1D286BB41B315030", "37", prints_twice];
-    let stream = joined(rt.alloc(), parts, 7089).expect(&rt, "memory");
-    let mut paper = Vec::new(rt.alloc());
-    for _ in 0..2 {
-        let line = joined(rt.alloc(), ["qr left 2 3 L ", "7", "\n"], 7089).expect(&rt, "memory");
-        paper.extend_from_slice(&line).expect(&rt, "memory");
-    }
-    let wanted = (paper.as_slice(), Status::Good);
-    assert!(&rt; prints(rt.alloc(), render_task(), &stream, wanted));
+    prints_long(&rt, rt.alloc(), render_task(), &LONGEST_CONTENT);
 }
 
 // Stores of 256 bytes, 1,000 of them, and a print of the last.
+const MANY_STORES: [Long; 1] = [(
+    Text::Times(
+        ("1D286B0301315030", "41", ""),
+        256,
+        1000,
+        "1D286B0300315130",
+    ),
+    Text::Parts(("qr left 2 3 L ", "A", "\n"), 256),
+    Status::Good,
+)];
+
 #[test]
 fn many_stores_in_render(rt: HostRuntime) {
-    let store = joined(rt.alloc(), ["1D286B0301315030", "41", ""], 256).expect(&rt, "memory");
-    let mut stream = Vec::new(rt.alloc());
-    for _ in 0..1000 {
-        stream.extend_from_slice(&store).expect(&rt, "memory");
-    }
-    stream
-        .extend_from_slice(b"1D286B0300315130")
-        .expect(&rt, "memory");
-    let paper = joined(rt.alloc(), ["qr left 2 3 L ", "A", "\n"], 256).expect(&rt, "memory");
-    let wanted = (paper.as_slice(), Status::Good);
-    assert!(&rt; prints(rt.alloc(), render_task(), &stream, wanted));
+    prints_long(&rt, rt.alloc(), render_task(), &MANY_STORES);
 }

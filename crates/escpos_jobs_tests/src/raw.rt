@@ -1,11 +1,14 @@
 //! Bytes as they are: the worked rows of `check --raw`, `render --raw` and `encode --raw`.
 
+use crate::support::long::{Long, Text, prints_long};
 use escpos_io::MemoryIn;
 use escpos_job_parts::status::Status;
+use escpos_jobs::task::Task;
 use escpos_test_jobs::{
-    Row, performs, performs_rows, prints, raw_check_task, raw_encode_task, raw_render_task,
+    Row, performs, performs_rows, raw_check_task, raw_encode_task, raw_render_task,
 };
-use escpos_test_receipts::filled;
+use std::alloc::Global;
+use std::process::Abort;
 
 // Streams, and the listing of their commands.
 const LISTED: [Row; 6] = [
@@ -93,30 +96,47 @@ fn raw_receipts(rt: HostRuntime) {
 }
 
 // The longest input: its first byte is refused, and so the others aren't read as commands. One more is too long.
+const LIMIT: [Long; 1] = [(
+    Text::Filled(b"\x06", b'\r', 16_777_216),
+    Text::Whole(b"fault 0 1 UnknownByte\n"),
+    Status::Refused,
+)];
+
 #[test]
 fn raw_limit(rt: HostRuntime) {
-    let bytes = filled(rt.alloc(), b"\x06", b'\r', 16_777_216).expect(&rt, "memory");
-    let wanted = (b"fault 0 1 UnknownByte\n".as_slice(), Status::Refused);
-    assert!(&rt; prints(rt.alloc(), raw_check_task(), &bytes, wanted));
+    prints_long(&rt, rt.alloc(), raw_check_task(), &LIMIT);
 }
+
+const PAST_THE_LIMIT: [Long; 1] = [(
+    Text::Filled(b"\x06", b'\r', 16_777_217),
+    Text::Whole(b"refused input\n"),
+    Status::Refused,
+)];
 
 #[test]
 fn raw_past_the_limit(rt: HostRuntime) {
-    let bytes = filled(rt.alloc(), b"\x06", b'\r', 16_777_217).expect(&rt, "memory");
-    let wanted = (b"refused input\n".as_slice(), Status::Refused);
-    assert!(&rt; prints(rt.alloc(), raw_render_task(), &bytes, wanted));
+    prints_long(&rt, rt.alloc(), raw_render_task(), &PAST_THE_LIMIT);
 }
 
-// A source fails, and nothing is put; a sink fails, and has the beginning.
-#[test]
-fn raw_failures(rt: HostRuntime) {
-    for task in [raw_check_task(), raw_render_task(), raw_encode_task()] {
-        let mut source = MemoryIn::failing(b"[{\"line\":\"Hi\"}]", 7, 2);
-        let wanted = (b"".as_slice(), Status::Device);
-        assert!(&rt; performs(rt.alloc(), Ok(task), &mut source, &mut [0; 64], wanted));
-    }
+// A source of a receipt fails, and nothing is put.
+fn fails(rt: &impl Abort, alloc: Global, task: Task) {
+    let mut source = MemoryIn::failing(b"[{\"line\":\"Hi\"}]", 7, 2);
+    let wanted = (b"".as_slice(), Status::Device);
+    assert!(rt; performs(alloc, Ok(task), &mut source, &mut [0; 64], wanted));
+}
+
+// A sink fails, and has the beginning.
+fn has_the_beginning(rt: &impl Abort, alloc: Global) {
     let mut source = MemoryIn::new(b"[{\"line\":\"Hi\"}]", 7);
     let wanted = (b"Hi".as_slice(), Status::Device);
     let asked = Ok(raw_encode_task());
-    assert!(&rt; performs(rt.alloc(), asked, &mut source, &mut [0; 2], wanted));
+    assert!(rt; performs(alloc, asked, &mut source, &mut [0; 2], wanted));
+}
+
+#[test]
+fn raw_failures(rt: HostRuntime) {
+    fails(&rt, rt.alloc(), raw_check_task());
+    fails(&rt, rt.alloc(), raw_render_task());
+    fails(&rt, rt.alloc(), raw_encode_task());
+    has_the_beginning(&rt, rt.alloc());
 }

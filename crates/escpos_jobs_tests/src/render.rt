@@ -1,10 +1,8 @@
 //! The rows of `render`: lines, styles, barcodes, rasters and feeds as they lie on paper.
 
+use crate::support::long::{Long, Text, prints_long};
 use escpos_job_parts::status::Status;
-use escpos_test_jobs::{Row, performs_rows, prints, render_task};
-use escpos_test_receipts::filled;
-use std::alloc::Global;
-use std::process::Abort;
+use escpos_test_jobs::{Row, performs_rows, render_task};
 
 const RENDERED: [Row; 11] = [
     // empty_input
@@ -352,25 +350,26 @@ fn styles_in_render(rt: HostRuntime) {
     assert!(&rt; performs_rows(rt.alloc(), render_task(), &RENDERED_STYLES, &[1, 4096]));
 }
 
-// A raster of 128 bytes a row, with so many bytes of dots, through `render`.
-fn renders_wide(rt: &impl Abort, alloc: Global, head: &[u8], count: usize, item: &[u8]) {
-    let digits = count.saturating_mul(2);
-    let input = filled(alloc, head, b'a', digits.saturating_add(16)).expect(rt, "memory");
-    let mut line = filled(alloc, item, b'a', digits.saturating_add(item.len())).expect(
-        rt, "memory",
-    );
-    line.extend_from_slice(b"\n").expect(rt, "memory");
-    assert!(rt; prints(alloc, render_task(), &input, (&line, Status::Good)));
-}
+// A raster of 128 bytes a row through `render`, with 524,160 bytes of dots.
+const LARGEST: [Long; 1] = [(
+    Text::Filled(b"1D7630008000FF0F", b'a', 1_048_336),
+    Text::FilledAnd(b"raster left normal 128 4095 ", b'a', 1_048_348, b"\n"),
+    Status::Good,
+)];
 
 #[test]
 fn the_largest_raster(rt: HostRuntime) {
-    let item = b"raster left normal 128 4095 ";
-    renders_wide(&rt, rt.alloc(), b"1D7630008000FF0F", 524_160, item);
+    prints_long(&rt, rt.alloc(), render_task(), &LARGEST);
 }
+
+// The same with 262,016 bytes of dots.
+const OF_2047_ROWS: [Long; 1] = [(
+    Text::Filled(b"1D7630008000FF07", b'a', 524_048),
+    Text::FilledAnd(b"raster left normal 128 2047 ", b'a', 524_060, b"\n"),
+    Status::Good,
+)];
 
 #[test]
 fn a_raster_of_2047_rows(rt: HostRuntime) {
-    let item = b"raster left normal 128 2047 ";
-    renders_wide(&rt, rt.alloc(), b"1D7630008000FF07", 262_016, item);
+    prints_long(&rt, rt.alloc(), render_task(), &OF_2047_ROWS);
 }

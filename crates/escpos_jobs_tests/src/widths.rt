@@ -5,13 +5,10 @@ use escpos_job_parts::form::Form;
 use escpos_job_parts::status::Status;
 use escpos_jobs::task::Task;
 use escpos_test_jobs::{Row, performs_rows, raw_render_task};
+use std::alloc::Global;
 use std::process::Abort;
 
-fn wide(rt: &impl Abort, dots: u16) -> LineWidth {
-    LineWidth::new(dots).expect(rt, "a width")
-}
-
-// A stream of 33 characters, and its paper in lines of 384 dots and of 576.
+// A stream of 33 characters, and its paper in lines of 384 dots.
 const NARROW: [Row; 1] = [(
     b"abcdefghijklmnopqrstuvwxyz0123456\n",
     b"row left abcdefghijklmnopqrstuvwxyz012345\nfeed 1\nrow left 6\nfeed 1\n",
@@ -25,24 +22,26 @@ const WIDE: [Row; 1] = [(
     Status::Good,
 )];
 
+// The same in lines of 512 dots.
 const USUAL: [Row; 1] = [(
     b"abcdefghijklmnopqrstuvwxyz0123456789ABCDEFGHIJKL\n",
     b"row left abcdefghijklmnopqrstuvwxyz0123456789ABCDEF\nfeed 1\nrow left GHIJKL\nfeed 1\n",
     Status::Good,
 )];
 
+// Each row is printed in lines of so many dots.
+fn prints_wide(rt: &impl Abort, alloc: Global, dots: u16, rows: &[Row]) {
+    let width = LineWidth::new(dots).expect(rt, "a width");
+    let task = Task::Render {
+        form: Form::Raw,
+        width,
+    };
+    assert!(rt; performs_rows(alloc, task, rows, &[1, 4096]), "{dots}");
+}
+
 #[test]
 fn papers_of_widths(rt: HostRuntime) {
-    let (narrow, wide) = (wide(&rt, 384), wide(&rt, 576));
-    let task = Task::Render {
-        form: Form::Raw,
-        width: narrow,
-    };
-    assert!(&rt; performs_rows(rt.alloc(), task, &NARROW, &[1, 4096]));
-    let task = Task::Render {
-        form: Form::Raw,
-        width: wide,
-    };
-    assert!(&rt; performs_rows(rt.alloc(), task, &WIDE, &[1, 4096]));
+    prints_wide(&rt, rt.alloc(), 384, &NARROW);
+    prints_wide(&rt, rt.alloc(), 576, &WIDE);
     assert!(&rt; performs_rows(rt.alloc(), raw_render_task(), &USUAL, &[4096]));
 }

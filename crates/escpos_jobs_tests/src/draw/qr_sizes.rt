@@ -93,11 +93,9 @@ fn stream_of(
     joined(alloc, [&head, &digits, "1D286B0300315130"], count).expect(rt, "memory")
 }
 
-// So many of a character are drawn in a box of this side, or in one of two lines of text where there is none.
-fn is_boxed(rt: &impl Abort, alloc: Global, (level, character, count, side): Largest) {
-    let stream = stream_of(rt, alloc, level, character, count);
-    let length = count.saturating_mul(12).min(496);
-    let front = if side > 177 {
+// What stands before the content: a box of this side, or one of two lines of text where no version holds it.
+fn front_of(rt: &impl Abort, alloc: Global, side: usize, length: usize) -> String {
+    if side > 177 {
         format!(in alloc;
             "<g class=\"qr\" transform=\"translate(32,32)\">\n<svg y=\"0\" width=\"512\" height=\"48\"><rect class=\"box\" width=\"512\" height=\"48\"/></svg>\n<svg y=\"0\" width=\"512\" height=\"48\" viewBox=\"0 0 512 48\"><text class=\"middle\" x=\"256\" y=\"18\">not scannable</text><text class=\"middle\" x=\"256\" y=\"42\" textLength=\"{length}\" lengthAdjust=\"spacingAndGlyphs\">"
         ).expect(rt, "memory")
@@ -105,25 +103,36 @@ fn is_boxed(rt: &impl Abort, alloc: Global, (level, character, count, side): Lar
         format!(in alloc;
             "<g class=\"qr\" transform=\"translate(32,32)\">\n<svg width=\"{side}\" height=\"{side}\"><rect class=\"box\" width=\"{side}\" height=\"{side}\"/></svg>\n<svg width=\"{side}\" height=\"{side}\" viewBox=\"0 0 512 512\"><text class=\"middle\" x=\"256\" y=\"262\" textLength=\"{length}\" lengthAdjust=\"spacingAndGlyphs\">"
         ).expect(rt, "memory")
-    };
+    }
+}
+
+// The document of such a content, which has so many of a character.
+fn boxed(rt: &impl Abort, alloc: Global, (character, count, side): (&str, usize, usize)) -> String {
+    let front = front_of(rt, alloc, side, count.saturating_mul(12).min(496));
     let depth = if side > 177 { 48 } else { side };
     let height = format!(in alloc; "{}", depth.saturating_add(64)).expect(rt, "memory");
-    let body = joined(alloc, [&front, character, "</text></svg>\n</g>\n"], count).expect(
-        rt, "memory",
-    );
+    let parts = [front.as_str(), character, "</text></svg>\n</g>\n"];
+    let body = joined(alloc, parts, count).expect(rt, "memory");
     let body = str::from_utf8(&body).expect(rt, "text");
-    let wanted = document(rt, alloc, &height, &height, body);
-    assert!(rt; prints(alloc, draw_task(), &stream, (&wanted, Status::Good)));
+    document(rt, alloc, &height, &height, body)
+}
+
+// So many of a character are drawn in a box of this side, or in one of two lines of text where there is none.
+fn is_boxed(rt: &impl Abort, alloc: Global, (level, character, count, side): Largest) {
+    let stream = stream_of(rt, alloc, level, character, count);
+    let text = boxed(rt, alloc, (character, count, side));
+    let wanted = (text.as_bytes(), Status::Good);
+    assert!(rt; prints(alloc, draw_task(), &stream, wanted));
 }
 
 // One character more makes the next version, which has four modules more, or is held by none.
 #[test]
 fn largest_contents_of_versions(rt: HostRuntime) {
-    for (level, character, count, side) in LARGEST {
-        is_boxed(&rt, rt.alloc(), (level, character, count, side));
-        if count < 7089 {
+    for (level, character, count, side) in &LARGEST {
+        is_boxed(&rt, rt.alloc(), (*level, *character, *count, *side));
+        if *count < 7089 {
             let (count, side) = (count.saturating_add(1), side.saturating_add(4));
-            is_boxed(&rt, rt.alloc(), (level, character, count, side));
+            is_boxed(&rt, rt.alloc(), (*level, *character, count, side));
         }
     }
 }
@@ -166,6 +175,9 @@ fn bytes_of_each_version(rt: HostRuntime) {
     }
 }
 
+// The parts of a stream, how often the middle one comes, and what is in its picture.
+type Pictured = ([&'static str; 3], usize, &'static str);
+
 // The picture of a stream, given in hexadecimal, has this text.
 fn has_text(rt: &impl Abort, alloc: Global, stream: &[u8], wanted: &str) {
     let mut source = MemoryIn::new(stream, 4096);
@@ -177,16 +189,25 @@ fn has_text(rt: &impl Abort, alloc: Global, stream: &[u8], wanted: &str) {
     assert!(rt; text.contains(wanted), "{wanted}");
 }
 
-// A size in dots, how many bytes a content has, and what is in the picture.
-const WIDE: [(&str, usize, &str); 3] = [
+fn is_pictured(rt: &impl Abort, alloc: Global, (parts, count, wanted): Pictured) {
+    let stream = joined(alloc, parts, count).expect(rt, "memory");
+    has_text(rt, alloc, &stream, wanted);
+}
+
+// Modules of 7 dots with 458 bytes, of 9 with 271, and of 8 with 271.
+const WIDE: [Pictured; 3] = [
     (
-        "07",
+        ["1D286B03003143071D286BCD01315030", "61", "1D286B0300315130"],
         458,
         "<rect class=\"box\" width=\"511\" height=\"511\"/>",
     ),
-    ("09", 271, "not scannable"),
     (
-        "08",
+        ["1D286B03003143091D286B1201315030", "61", "1D286B0300315130"],
+        271,
+        "not scannable",
+    ),
+    (
+        ["1D286B03003143081D286B1201315030", "61", "1D286B0300315130"],
         271,
         "<rect class=\"box\" width=\"456\" height=\"456\"/>",
     ),
@@ -195,38 +216,31 @@ const WIDE: [(&str, usize, &str); 3] = [
 // 511 dots fit on the line, 513 don't.
 #[test]
 fn widths_near_that_of_the_line(rt: HostRuntime) {
-    for (size, count, wanted) in WIDE {
-        let length = u16::try_from(count.saturating_add(3)).expect(&rt, "a length");
-        let [low, high] = length.to_le_bytes();
-        let head = format!(in rt.alloc();
-            "1D286B03003143{size}1D286B{low:02X}{high:02X}315030"
-        ).expect(&rt, "memory");
-        let stream = joined(rt.alloc(), [&head, "61", "1D286B0300315130"], count).expect(
-            &rt, "memory",
-        );
-        has_text(&rt, rt.alloc(), &stream, wanted);
+    for row in &WIDE {
+        is_pictured(&rt, rt.alloc(), *row);
     }
 }
 
-// A content of two kinds of characters, in hexadecimal between its store and its print, how often its middle part comes, and the side.
-const MIXED: [([&str; 3], usize, &str); 7] = [
-    (["1D286B1500315030", "41", "611D286B0300315130"], 17, "75"),
-    (["1D286B150031503061", "41", "1D286B0300315130"], 17, "75"),
-    (["1D286B2500315030", "31", "411D286B0300315130"], 33, "75"),
-    (["1D286B250031503041", "31", "1D286B0300315130"], 33, "75"),
-    (["1D286B1C00315030", "31", "411D286B0300315130"], 24, "63"),
-    (["1D286B1C0031503041", "31", "1D286B0300315130"], 24, "63"),
-    (["1D286B1400315030", "41", "611D286B0300315130"], 16, "63"),
+// Boxes of 21 modules of 3 dots, and of 25.
+const BOX_63: &str = "<rect class=\"box\" width=\"63\" height=\"63\"/>";
+
+const BOX_75: &str = "<rect class=\"box\" width=\"75\" height=\"75\"/>";
+
+// A content of two kinds of characters, in hexadecimal between its store and its print.
+const MIXED: [Pictured; 7] = [
+    (["1D286B1500315030", "41", "611D286B0300315130"], 17, BOX_75),
+    (["1D286B150031503061", "41", "1D286B0300315130"], 17, BOX_75),
+    (["1D286B2500315030", "31", "411D286B0300315130"], 33, BOX_75),
+    (["1D286B250031503041", "31", "1D286B0300315130"], 33, BOX_75),
+    (["1D286B1C00315030", "31", "411D286B0300315130"], 24, BOX_63),
+    (["1D286B1C0031503041", "31", "1D286B0300315130"], 24, BOX_63),
+    (["1D286B1400315030", "41", "611D286B0300315130"], 16, BOX_63),
 ];
 
 // One character that isn't of a packing takes the whole content out of it, wherever it stands.
 #[test]
 fn contents_of_two_kinds(rt: HostRuntime) {
-    for (parts, count, side) in MIXED {
-        let stream = joined(rt.alloc(), parts, count).expect(&rt, "memory");
-        let wanted = format!(in rt.alloc();
-            "<rect class=\"box\" width=\"{side}\" height=\"{side}\"/>"
-        ).expect(&rt, "memory");
-        has_text(&rt, rt.alloc(), &stream, wanted.as_str());
+    for row in &MIXED {
+        is_pictured(&rt, rt.alloc(), *row);
     }
 }

@@ -3,6 +3,7 @@
 //! A job that is refused memory has put the first lines of what it puts with ample memory, and then the line `memory`. It is done
 //! again over the same input.
 
+use crate::support::tasks::{Named, task};
 use escpos_command::LineWidth;
 use escpos_host::{JsonError, Receipt};
 use escpos_io::{ByteIn, MemoryIn, MemoryOut};
@@ -10,14 +11,16 @@ use escpos_job_parts::form::Form;
 use escpos_job_parts::input::{InputFault, stream_input};
 use escpos_job_parts::receipt_input::{NoReceipt, read_receipt};
 use escpos_job_parts::status::Status;
-use escpos_jobs::task::Task;
 use escpos_link::Event;
 use escpos_receipt::ReceiptOptions;
+use escpos_script::play::play;
 use escpos_script::script::{NoEvent, event_of};
-use escpos_test_jobs::{
-    NoNetwork, check_task, draw_task, encode_task, is_whole, raw_check_task, raw_encode_task,
-    raw_render_task, render_task, render_text_task, run_job,
-};
+use escpos_stream_jobs::check::check;
+use escpos_stream_jobs::draw::draw;
+use escpos_stream_jobs::encode::encode;
+use escpos_stream_jobs::image::image;
+use escpos_stream_jobs::render::{render, render_text};
+use escpos_test_jobs::{NoNetwork, is_whole, run_job};
 use escpos_test_receipts::{S, are_line};
 use std::alloc::Global;
 use std::process::Abort;
@@ -125,45 +128,48 @@ enum Job {
     Encode(Form),
     Image,
     Play,
-    Perform(Task),
+    Perform(Named),
+}
+
+// Each job by its own call stands in a function of its own, so that `do_job` knows nothing of what the job's contract says.
+fn checks(alloc: Global, form: Form, source: &mut MemoryIn, sink: &mut MemoryOut) -> Status {
+    check(alloc, form, source, sink)
+}
+
+fn renders(alloc: Global, form: Form, source: &mut MemoryIn, sink: &mut MemoryOut) -> Status {
+    render(alloc, form, LineWidth::usual(), source, sink)
+}
+
+fn renders_text(alloc: Global, form: Form, source: &mut MemoryIn, sink: &mut MemoryOut) -> Status {
+    render_text(alloc, form, LineWidth::usual(), source, sink)
+}
+
+fn draws(alloc: Global, form: Form, source: &mut MemoryIn, sink: &mut MemoryOut) -> Status {
+    draw(alloc, form, LineWidth::usual(), source, sink)
+}
+
+fn encodes(alloc: Global, form: Form, source: &mut MemoryIn, sink: &mut MemoryOut) -> Status {
+    encode(alloc, form, &ReceiptOptions::usual(), source, sink)
+}
+
+fn makes_entry(alloc: Global, source: &mut MemoryIn, sink: &mut MemoryOut) -> Status {
+    image(alloc, LineWidth::usual(), None, source, sink)
+}
+
+fn plays(alloc: Global, source: &mut MemoryIn, sink: &mut MemoryOut) -> Status {
+    play(alloc, source, sink)
 }
 
 fn do_job(alloc: Global, job: Job, source: &mut MemoryIn, sink: &mut MemoryOut) -> Status {
     match job {
-        Job::Check(form) => escpos_stream_jobs::check::check(alloc, form, source, sink),
-        Job::Render(form) => escpos_stream_jobs::render::render(
-            alloc,
-            form,
-            LineWidth::usual(),
-            source,
-            sink,
-        ),
-        Job::RenderText(form) => {
-            escpos_stream_jobs::render::render_text(alloc, form, LineWidth::usual(), source, sink)
-        }
-        Job::Draw(form) => escpos_stream_jobs::draw::draw(
-            alloc,
-            form,
-            LineWidth::usual(),
-            source,
-            sink,
-        ),
-        Job::Encode(form) => escpos_stream_jobs::encode::encode(
-            alloc,
-            form,
-            &ReceiptOptions::usual(),
-            source,
-            sink,
-        ),
-        Job::Image => escpos_stream_jobs::image::image(
-            alloc,
-            LineWidth::usual(),
-            None,
-            source,
-            sink,
-        ),
-        Job::Play => escpos_script::play::play(alloc, source, sink),
-        Job::Perform(task) => run_job(&NoNetwork, alloc, Ok(task), source, sink),
+        Job::Check(form) => checks(alloc, form, source, sink),
+        Job::Render(form) => renders(alloc, form, source, sink),
+        Job::RenderText(form) => renders_text(alloc, form, source, sink),
+        Job::Draw(form) => draws(alloc, form, source, sink),
+        Job::Encode(form) => encodes(alloc, form, source, sink),
+        Job::Image => makes_entry(alloc, source, sink),
+        Job::Play => plays(alloc, source, sink),
+        Job::Perform(named) => run_job(&NoNetwork, alloc, Ok(task(named)), source, sink),
     }
 }
 
@@ -254,64 +260,68 @@ fn play_refused(rt: HostRuntime) {
     puts_at_last(&rt, rt.alloc(), Job::Play, SCRIPT, PLAYED);
 }
 
+// What is asked for, over which text, and what is put.
+const PERFORMED: [(Named, &[u8], (&[u8], Status)); 10] = [
+    (Named::Check, STREAM_TEXT, LISTED_STREAM),
+    (Named::Render, STREAM_TEXT, RENDERED_STREAM),
+    (Named::Draw, DRAWN_TEXT, DRAWN_STREAM),
+    (Named::Encode, RECEIPT_TEXT, ENCODED_LINE),
+    (Named::RawCheck, STREAM_BYTES, LISTED_STREAM),
+    (Named::RawRender, STREAM_BYTES, RENDERED_STREAM),
+    (Named::RawEncode, RECEIPT_TEXT, ENCODED_BYTES),
+    (Named::RenderText, STREAM_TEXT, RENDERED_STREAM),
+    (Named::Image, PICTURE, PICTURE_ENTRY),
+    (Named::Play, SCRIPT, PLAYED),
+];
+
 #[test]
 fn perform_refused(rt: HostRuntime) {
-    let plain = render_text_task();
-    let image = Task::Image {
-        width: LineWidth::usual(),
-        threshold: None,
-    };
-    for (task, text, wanted) in [
-        (check_task(), STREAM_TEXT, LISTED_STREAM),
-        (render_task(), STREAM_TEXT, RENDERED_STREAM),
-        (draw_task(), DRAWN_TEXT, DRAWN_STREAM),
-        (encode_task(), RECEIPT_TEXT, ENCODED_LINE),
-        (raw_check_task(), STREAM_BYTES, LISTED_STREAM),
-        (raw_render_task(), STREAM_BYTES, RENDERED_STREAM),
-        (raw_encode_task(), RECEIPT_TEXT, ENCODED_BYTES),
-        (plain, STREAM_TEXT, RENDERED_STREAM),
-        (image, PICTURE, PICTURE_ENTRY),
-        (Task::Play, SCRIPT, PLAYED),
-    ] {
-        puts_at_last(&rt, rt.alloc(), Job::Perform(task), text, wanted);
+    for (named, text, wanted) in &PERFORMED {
+        puts_at_last(&rt, rt.alloc(), Job::Perform(*named), text, *wanted);
     }
 }
 
 // A line, a barcode and a raster.
 const STREAM: &[u8] = b"Hi\n\x1Dk\x035512345\x00\x1Dv0\x00\x01\x00\x02\x00\xF0\x0F";
 
-// The bytes of an input in this form. Where memory is refused the source hasn't failed, and a new one is read.
-fn input_at_last(rt: &impl Abort, alloc: Global, text: &[u8], form: Form) -> Vec<u8> {
+// The bytes of an input in this form. Where memory is refused the source hasn't failed, and there are none.
+fn input_of(rt: &impl Abort, alloc: Global, text: &[u8], form: Form) -> Option<Vec<u8>> {
     let mut source = MemoryIn::new(text, 7);
     match stream_input(alloc, form, &mut source) {
-        Ok(bytes) => bytes,
+        Ok(bytes) => Some(bytes),
         Err(fault) => {
             assert!(rt; fault == InputFault::Memory);
             assert!(rt; !source.has_failed());
-            let mut source = MemoryIn::new(text, 7);
-            stream_input(alloc, form, &mut source).expect(rt, "bytes")
+            None
         }
     }
+}
+
+// An input in this form has these bytes. Where memory is refused, a new source is read.
+fn has_bytes(rt: &impl Abort, alloc: Global, text: &[u8], form: Form, wanted: &[u8]) {
+    let bytes = match input_of(rt, alloc, text, form) {
+        Some(bytes) => bytes,
+        None => input_of(rt, alloc, text, form).expect(rt, "bytes"),
+    };
+    assert!(rt; bytes.as_slice() == wanted);
 }
 
 #[test]
 fn hexadecimal_input_refused(rt: HostRuntime) {
     let text = b"48690A 1d6b0335353132333435 00 1D763000010002 00f00f";
-    let bytes = input_at_last(&rt, rt.alloc(), text, Form::Hexadecimal);
-    assert!(&rt; bytes.as_slice() == STREAM);
+    has_bytes(&rt, rt.alloc(), text, Form::Hexadecimal, STREAM);
 }
 
 #[test]
 fn raw_input_refused(rt: HostRuntime) {
-    let bytes = input_at_last(&rt, rt.alloc(), STREAM, Form::Raw);
-    assert!(&rt; bytes.as_slice() == STREAM);
+    has_bytes(&rt, rt.alloc(), STREAM, Form::Raw, STREAM);
 }
 
-// The receipt that an input describes. Where memory is refused the source hasn't failed, and a new one is read.
-fn described_at_last(rt: &impl Abort, alloc: Global) -> Receipt {
+// The receipt that an input describes. Where memory is refused the source hasn't failed, and there is none.
+fn described(rt: &impl Abort, alloc: Global) -> Option<Receipt> {
     let mut source = MemoryIn::new(S.0, 7);
     match read_receipt(alloc, &ReceiptOptions::usual(), &mut source) {
-        Ok(receipt) => receipt,
+        Ok(receipt) => Some(receipt),
         Err(fault) => {
             assert!(rt;
                 matches!(
@@ -320,9 +330,16 @@ fn described_at_last(rt: &impl Abort, alloc: Global) -> Receipt {
                 )
             );
             assert!(rt; !source.has_failed());
-            let mut source = MemoryIn::new(S.0, 7);
-            read_receipt(alloc, &ReceiptOptions::usual(), &mut source).expect(rt, "a receipt")
+            None
         }
+    }
+}
+
+// The same. Where memory is refused, a new source is read.
+fn described_at_last(rt: &impl Abort, alloc: Global) -> Receipt {
+    match described(rt, alloc) {
+        Some(receipt) => receipt,
+        None => described(rt, alloc).expect(rt, "a receipt"),
     }
 }
 
@@ -343,10 +360,16 @@ fn event_at_last(rt: &impl Abort, alloc: Global, line: &[u8]) -> Event {
     }
 }
 
+// Whether an event submits a receipt of this line.
+fn submits_line(event: &Event, line: &[u8]) -> bool {
+    match event {
+        Event::Submit(receipt) => are_line(receipt.commands(), line),
+        _ => false,
+    }
+}
+
 #[test]
 fn event_of_refused(rt: HostRuntime) {
-    match event_at_last(&rt, rt.alloc(), b"submit [{\"line\":\"Hi\"}]") {
-        Event::Submit(receipt) => assert!(&rt; are_line(receipt.commands(), S.1)),
-        _ => panic!(&rt; "another event"),
-    }
+    let event = event_at_last(&rt, rt.alloc(), b"submit [{\"line\":\"Hi\"}]");
+    assert!(&rt; submits_line(&event, S.1));
 }
