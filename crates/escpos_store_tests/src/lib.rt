@@ -1,7 +1,7 @@
 //! The tests of a till's store in SQLite, over files in memory and over memory.
 //!
-//! A test makes a store and lends it to checks that own nothing: each way out of a function drops what it owns, and a connection
-//! costs most.
+//! Most tests are rows of steps, which are constants. One function plays them: it owns the ledger, and lends it to a function for each step.
+//! A test that owned one would be proved with its drop, and a connection costs most.
 //!
 //! `store` is of entries of each kind, `long` of long ledgers, `cut` of ledgers whose files are cut off; `memory` lets each allocation
 //! of a call fail in turn. What they share is in `support`.

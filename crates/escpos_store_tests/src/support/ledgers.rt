@@ -11,7 +11,7 @@ use escpos_till::{NoStore, StoreFault};
 use sqlite::{FileStore, Files, Options};
 use sqlite_disk::Memory;
 use std::alloc::Global;
-use std::mem::{replace, swap};
+use std::mem::replace;
 use std::process::Abort;
 
 // A store over files in memory.
@@ -89,16 +89,22 @@ fn takes_step(rt: &impl Abort, alloc: Global, ledger: &mut Ledger, step: Step) -
         Step::IsRefused => opens(rt, alloc, ledger) == Err(NoStore::NoLedger),
         Step::Closes => closes(rt, ledger) == Ok(()),
         Step::Crashes => crashes(rt, ledger),
-        Step::PutsLogAside => {
-            swap(&mut ledger.files.log, &mut ledger.aside);
-            true
-        }
-        Step::PutsDbAside => {
-            swap(&mut ledger.files.db, &mut ledger.aside);
-            true
-        }
+        Step::PutsLogAside => puts_log_aside(alloc, ledger),
+        Step::PutsDbAside => puts_db_aside(alloc, ledger),
         _ => keeps(rt, alloc, ledger, step),
     }
+}
+
+fn puts_log_aside(alloc: Global, ledger: &mut Ledger) -> bool {
+    let log = replace(&mut ledger.files.log, Memory::new(alloc));
+    ledger.files.log = replace(&mut ledger.aside, log);
+    true
+}
+
+fn puts_db_aside(alloc: Global, ledger: &mut Ledger) -> bool {
+    let db = replace(&mut ledger.files.db, Memory::new(alloc));
+    ledger.files.db = replace(&mut ledger.aside, db);
+    true
 }
 
 // Steps with the store of a ledger that is open.
