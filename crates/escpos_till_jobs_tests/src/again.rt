@@ -1,17 +1,11 @@
 //! A receipt that a ledger has taken is taken once more: what is printed, and which entry is kept.
 
-use crate::support::steps::{Step, plays, plays_failing, plays_over};
+use crate::support::steps::{Step, plays, plays_failing};
 use crate::support::tills::{FAILED, Plain, S};
-use escpos_command::LineWidth;
 use escpos_job_parts::status::Status;
-use escpos_receipt::ReceiptOptions;
-use escpos_text::Replacement;
-use escpos_till::{Content, Entry};
-use std::alloc::Global;
-use std::process::Abort;
 
 // The first is recorded, the second tried, the third waits, and the fourth was cancelled after it was tried. There is no fifth.
-const FOUR: [Plain; 9] = [
+const FOUR: &[Plain] = &[
     Plain::Taken,
     Plain::Taken,
     Plain::Tried(1, 2),
@@ -41,8 +35,10 @@ const TAKEN_ONCE_MORE: &[Step] = &[
 // Any receipt that was taken is taken once more, whatever became of it.
 #[test]
 fn taken_once_more(rt: HostRuntime) {
-    plays(&rt, rt.alloc(), &FOUR, TAKEN_ONCE_MORE);
+    plays(&rt, rt.alloc(), FOUR, TAKEN_ONCE_MORE);
 }
+
+const RAISED: &[Plain] = &[Plain::Raised(7)];
 
 const NONE_TAKEN: &[Step] = &[
     Step::Again(1, ("refused NotTaken 1\n", Status::Refused)),
@@ -52,45 +48,35 @@ const NONE_TAKEN: &[Step] = &[
 // No receipt was taken.
 #[test]
 fn none_taken(rt: HostRuntime) {
-    plays(&rt, rt.alloc(), &[Plain::Raised(7)], NONE_TAKEN);
+    plays(&rt, rt.alloc(), RAISED, NONE_TAKEN);
 }
 
-fn content(rt: &impl Abort, alloc: Global, (dots, replacement): (u16, u8), text: &[u8]) -> Content {
-    let options = ReceiptOptions {
-        width: LineWidth::new(dots).expect(rt, "a width"),
-        replacement: Replacement::new(replacement),
-    };
-    Content::with_options(text.to_vec(alloc).expect(rt, "memory"), options)
-}
+// A line of U+20AC, 5, a blank and U+2603, which no code table has.
+const REPLACED: &[u8] = b"[{\"line\":\"\xE2\x82\xAC5 \xE2\x98\x83\"}]";
 
 // A receipt for lines of 576 dots, one for 384 dots, which has a character that is replaced, and a text that gives none.
-fn three(rt: &impl Abort, alloc: Global) -> Vec<Entry> {
-    let mut entries = Vec::new(alloc);
-    for (options, text) in [
-        ((576, b'?'), S),
-        ((384, b'*'), "[{\"line\":\"€5 ☃\"}]".as_bytes()),
-        ((512, b'?'), b"[{\"text\":\"Hi\"}]".as_slice()),
-    ] {
-        let content = content(rt, alloc, options, text);
-        let _ = entries.push(Entry::Queued { content });
-    }
-    entries
-}
+const THREE: &[Plain] = &[
+    Plain::TakenFor(576, b'?', S),
+    Plain::TakenFor(384, b'*', REPLACED),
+    Plain::TakenFor(512, b'?', b"[{\"text\":\"Hi\"}]"),
+];
+
+const SAME_CONTENT: &[Step] = &[
+    Step::Again(2, ("queued 4\n", Status::Good)),
+    Step::Again(1, ("queued 5\n", Status::Good)),
+    Step::Again(3, ("refused 3 TextLeft\n", Status::Refused)),
+    Step::Kept(5),
+    Step::KeptText(3, 384, '*', REPLACED),
+    Step::KeptText(4, 576, '?', S),
+];
 
 // The text and the options are those that the receipt was taken with. A text that gives no receipt is refused.
 #[test]
 fn same_content(rt: HostRuntime) {
-    let text = "[{\"line\":\"€5 ☃\"}]".as_bytes();
-    let steps = [
-        Step::Again(2, ("queued 4\n", Status::Good)),
-        Step::Again(1, ("queued 5\n", Status::Good)),
-        Step::Again(3, ("refused 3 TextLeft\n", Status::Refused)),
-        Step::Kept(5),
-        Step::KeptText(3, 384, '*', text),
-        Step::KeptText(4, 576, '?', S),
-    ];
-    plays_over(&rt, rt.alloc(), three(&rt, rt.alloc()), &steps);
+    plays(&rt, rt.alloc(), THREE, SAME_CONTENT);
 }
+
+const ONE: &[Plain] = &[Plain::TakenFor(512, b'?', S)];
 
 const NOT_KEPT: &[Step] = &[
     Step::Again(1, ("queued 2\n", Status::Good)),
@@ -101,11 +87,10 @@ const NOT_KEPT: &[Step] = &[
 // Where the entry can't be kept, the word says so.
 #[test]
 fn not_kept(rt: HostRuntime) {
-    let mut entries = Vec::new(rt.alloc());
-    let content = content(&rt, rt.alloc(), (512, b'?'), S);
-    let _ = entries.push(Entry::Queued { content });
-    plays_failing(&rt, rt.alloc(), entries, 1, NOT_KEPT);
+    plays_failing(&rt, rt.alloc(), ONE, 1, NOT_KEPT);
 }
+
+const UNTRIED: &[Plain] = &[Plain::Taken, Plain::Recorded(1)];
 
 const NO_LEDGER: &[Step] = &[
     Step::Again(1, ("no ledger\n", Status::Device)),
@@ -115,10 +100,5 @@ const NO_LEDGER: &[Step] = &[
 // Entries that no ledger has: the word says so, and leaves them.
 #[test]
 fn no_ledger(rt: HostRuntime) {
-    plays(
-        &rt,
-        rt.alloc(),
-        &[Plain::Taken, Plain::Recorded(1)],
-        NO_LEDGER,
-    );
+    plays(&rt, rt.alloc(), UNTRIED, NO_LEDGER);
 }

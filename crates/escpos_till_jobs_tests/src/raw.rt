@@ -1,48 +1,73 @@
 //! Streams of bytes of other libraries: what is sent of those that are receipts, and where the others are refused.
 
 use crate::support::steps::{Step, plays};
-use crate::support::tills::is_told;
+use crate::support::tills::{Plain, Told, read_bytes, says_so};
 use escpos_command::LineWidth;
-use escpos_io::{MemoryIn, MemoryOut};
+use escpos_io::MemoryOut;
 use escpos_job_parts::status::Status;
-use escpos_till_jobs::{read_raw, refuse_raw};
+use escpos_till_jobs::refuse_raw;
+use std::alloc::Global;
+use std::process::Abort;
 
-// A stream, and what is sent of it.
-const TAKEN: [(&[u8], &[u8]); 7] = [
+const NONE: &[Plain] = &[];
+
+const FIRST: Told = ("queued 1\n", Status::Good);
+
+const SECOND: Told = ("queued 2\n", Status::Good);
+
+// A stream that is taken, and once more, and what is sent of it.
+const TAKEN: [&[Step]; 7] = [
     // python-escpos: ESC t before a text, ESC d 6 before a cut
-    (
-        b"\x1b@\x1bt\x00Hello World\n\x1bd\x06\x1dV\x00",
-        b"\x1bt\x00Hello World\n\x1bd\x06\x1dV\x00",
-    ),
+    &[
+        Step::QueueRaw(b"\x1b@\x1bt\x00Hello World\n\x1bd\x06\x1dV\x00", FIRST),
+        Step::Again(1, SECOND),
+        Step::DeliverFirst(b"\x1bt\x00Hello World\n\x1bd\x06\x1dV\x00"),
+    ],
     // python-escpos: styles, and a paper status in between
-    (
-        b"\x1b@\x1ba\x01\x1bE\x01Total\n\x10\x04\x04\x1bE\x00\x1dVA\x03",
-        b"\x1ba\x01\x1bE\x01Total\n\x1bE\x00\x1dVA\x03",
-    ),
+    &[
+        Step::QueueRaw(
+            b"\x1b@\x1ba\x01\x1bE\x01Total\n\x10\x04\x04\x1bE\x00\x1dVA\x03",
+            FIRST,
+        ),
+        Step::Again(1, SECOND),
+        Step::DeliverFirst(b"\x1ba\x01\x1bE\x01Total\n\x1bE\x00\x1dVA\x03"),
+    ],
     // escpos-php: ESC @ as a printer is opened, ESC ! and ESC a before a text, GS V A 3
-    (
-        b"\x1b@\x1b!\x00\x1ba\x00Hello World!\n\x1dVA\x03",
-        b"\x1b!\x00\x1ba\x00Hello World!\n\x1dVA\x03",
-    ),
+    &[
+        Step::QueueRaw(b"\x1b@\x1b!\x00\x1ba\x00Hello World!\n\x1dVA\x03", FIRST),
+        Step::Again(1, SECOND),
+        Step::DeliverFirst(b"\x1b!\x00\x1ba\x00Hello World!\n\x1dVA\x03"),
+    ],
     // ESC @ twice, GS a before it and after it
-    (b"\x1da\x0f\x1b@\x1b@Hi\n\x1b@\x1da\x00\x1b@", b"Hi\n"),
+    &[
+        Step::QueueRaw(b"\x1da\x0f\x1b@\x1b@Hi\n\x1b@\x1da\x00\x1b@", FIRST),
+        Step::Again(1, SECOND),
+        Step::DeliverFirst(b"Hi\n"),
+    ],
     // no ESC @ at all
-    (b"Hi\n", b"Hi\n"),
+    &[
+        Step::QueueRaw(b"Hi\n", FIRST),
+        Step::Again(1, SECOND),
+        Step::DeliverFirst(b"Hi\n"),
+    ],
     // a text in JSON is a stream of characters
-    (b"[{\"line\":\"Hi\"}]\n", b"[{\"line\":\"Hi\"}]\n"),
+    &[
+        Step::QueueRaw(b"[{\"line\":\"Hi\"}]\n", FIRST),
+        Step::Again(1, SECOND),
+        Step::DeliverFirst(b"[{\"line\":\"Hi\"}]\n"),
+    ],
     // a status asked for within a line
-    (b"\x1b@H\x10\x04\x01i\n", b"Hi\n"),
+    &[
+        Step::QueueRaw(b"\x1b@H\x10\x04\x01i\n", FIRST),
+        Step::Again(1, SECOND),
+        Step::DeliverFirst(b"Hi\n"),
+    ],
 ];
 
 #[test]
 fn sent_as_they_are(rt: HostRuntime) {
-    for (stream, wanted) in TAKEN {
-        let steps = [
-            Step::QueueRaw(stream, ("queued 1\n", Status::Good)),
-            Step::Again(1, ("queued 2\n", Status::Good)),
-            Step::DeliverFirst(wanted),
-        ];
-        plays(&rt, rt.alloc(), &[], &steps);
+    for steps in TAKEN {
+        plays(&rt, rt.alloc(), NONE, steps);
     }
 }
 
@@ -73,30 +98,38 @@ const REFUSED: [(&[u8], &str); 16] = [
     (b"Hi\n\x1b@Ho\n\x1d", "refused 26 CutShort 8\n"),
 ];
 
+fn is_refused(alloc: Global, stream: &[u8], line: &'static str) -> bool {
+    let mut room = [0; 64];
+    let mut output = MemoryOut::new(&mut room);
+    match read_bytes(alloc, LineWidth::usual(), stream) {
+        Ok(_) => false,
+        Err(fault) => {
+            let status = refuse_raw(fault, &mut output);
+            says_so((output.written(), status), (line, Status::Refused))
+        }
+    }
+}
+
 #[test]
 fn refused_at_their_places(rt: HostRuntime) {
     for (stream, line) in REFUSED {
-        let mut room = [0; 64];
-        let mut output = MemoryOut::new(&mut room);
-        let status = match read_raw(
-            rt.alloc(),
-            LineWidth::usual(),
-            &mut MemoryIn::new(stream, 7),
-        ) {
-            Ok(_) => panic!(&rt; "a receipt"),
-            Err(fault) => refuse_raw(fault, &mut output),
-        };
-        is_told(&rt, (output.written(), status), (line, Status::Refused));
+        assert!(&rt; is_refused(rt.alloc(), stream, line), "{line:?}");
     }
+}
+
+fn fits(rt: &impl Abort, alloc: Global, dots: u16, stream: &[u8]) -> bool {
+    let width = LineWidth::new(dots).expect(rt, "a width");
+    read_bytes(alloc, width, stream).is_ok()
 }
 
 // A barcode of three characters with wide modules fits on a wide line alone.
 #[test]
 fn printed_at_a_width(rt: HostRuntime) {
-    let stream = b"\x1dw\x04\x1dk\x04A\x00".as_slice();
-    for (dots, fits) in [(1_024, true), (512, true), (64, false)] {
-        let width = LineWidth::new(dots).expect(&rt, "a width");
-        let found = read_raw(rt.alloc(), width, &mut MemoryIn::new(stream, 7));
-        assert!(&rt; found.is_ok() == fits);
+    for (dots, wanted) in [(1_024, true), (512, true), (64, false)] {
+        let stream = b"\x1dw\x04\x1dk\x04A\x00";
+        assert!(&rt;
+            fits(&rt, rt.alloc(), dots, stream) == wanted,
+            "{dots} dots"
+        );
     }
 }

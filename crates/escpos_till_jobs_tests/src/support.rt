@@ -2,5 +2,6 @@
 //!
 //! No test stands here. A test imports from here and from the crates that it tests, never from another test's file.
 
+pub mod asked;
 pub mod steps;
 pub mod tills;

@@ -6,6 +6,8 @@ use escpos_till_jobs::{LedgerPath, SharedStore};
 use std::alloc::Global;
 use std::process::Abort;
 
+type Shared = SharedStore<BusyLedger, MemoryStore>;
+
 // One entry, which raises the next mark number.
 fn raised(rt: &impl Abort, alloc: Global, next: u32) -> Vec<Entry> {
     let mut entries = match Vec::with_capacity(alloc, 1) {
@@ -28,44 +30,75 @@ fn ledger(rt: &impl Abort, alloc: Global) -> BusyLedger {
     }
 }
 
-fn store_at_last(rt: &impl Abort, alloc: Global) -> SharedStore<BusyLedger, MemoryStore> {
-    let path = LedgerPath::new("a");
-    match SharedStore::open(alloc, ledger(rt, alloc), &path) {
-        Ok(store) => store,
+// The store of that ledger. None where memory is refused.
+fn opened(rt: &impl Abort, alloc: Global) -> Option<Shared> {
+    match SharedStore::open(alloc, ledger(rt, alloc), &LedgerPath::new("a")) {
+        Ok(store) => Some(store),
         Err(why) => {
             assert!(rt; why == NoStore::Memory);
-            match SharedStore::open(alloc, ledger(rt, alloc), &path) {
-                Ok(store) => store,
-                Err(_) => panic!(rt; "no store"),
-            }
+            None
         }
     }
 }
 
+fn opened_at_last(rt: &impl Abort, alloc: Global) -> Shared {
+    match opened(rt, alloc) {
+        Some(store) => store,
+        None => opened(rt, alloc).expect(rt, "a store"),
+    }
+}
+
+// How many entries it has. None where memory is refused.
+fn count_of(rt: &impl Abort, alloc: Global, store: &mut Shared) -> Option<usize> {
+    match store.entries(alloc) {
+        Ok(entries) => Some(entries.len()),
+        Err(why) => {
+            assert!(rt; why == StoreFault::Memory);
+            None
+        }
+    }
+}
+
+// Where memory is refused they are read again.
+fn has_one(rt: &impl Abort, alloc: Global, store: &mut Shared) {
+    let count = match count_of(rt, alloc, store) {
+        Some(count) => count,
+        None => count_of(rt, alloc, store).expect(rt, "entries"),
+    };
+    assert!(rt; count == 1);
+}
+
 #[test]
 fn open_refused(rt: HostRuntime) {
-    let mut store = store_at_last(&rt, rt.alloc());
-    let entries = match store.entries(rt.alloc()) {
-        Ok(entries) => entries,
-        Err(why) => {
-            assert!(&rt; why == StoreFault::Memory);
-            store.entries(rt.alloc()).expect(&rt, "entries")
-        }
-    };
-    assert!(&rt; entries.len() == 1);
+    let mut store = opened_at_last(&rt, rt.alloc());
+    has_one(&rt, rt.alloc(), &mut store);
 }
 
 const NINE: Entry = Entry::Raised { next: 9, heard: 0 };
 
-// The ledger is let go, and the others' entry is found before one is added. None is where memory is refused.
-fn finds(rt: &impl Abort, store: &mut SharedStore<BusyLedger, MemoryStore>) -> bool {
-    store.let_go();
+// What came of adding an entry: it is added, or so many entries of others are found.
+#[derive(Clone, Copy, PartialEq)]
+enum Came {
+    Added,
+    Found(usize),
+}
+
+fn append(store: &mut Shared) -> Result<Came, StoreFault> {
     match store.append(&NINE, None) {
-        Ok(Appended::Others(others)) => {
-            assert!(rt; others.len() == 1);
+        Ok(Appended::Done) => Ok(Came::Added),
+        Ok(Appended::Others(others)) => Ok(Came::Found(others.len())),
+        Err(why) => Err(why),
+    }
+}
+
+// The ledger is let go, and the others' entry is found before one is added. None is where memory is refused.
+fn finds(rt: &impl Abort, store: &mut Shared) -> bool {
+    store.let_go();
+    match append(store) {
+        Ok(came) => {
+            assert!(rt; came == Came::Found(1));
             true
         }
-        Ok(Appended::Done) => panic!(rt; "the others' entry isn't found"),
         Err(why) => {
             assert!(rt; why == StoreFault::Memory);
             false
@@ -74,20 +107,21 @@ fn finds(rt: &impl Abort, store: &mut SharedStore<BusyLedger, MemoryStore>) -> b
 }
 
 // Then the entry is added. Where memory is refused it is added by the second call; or the store answers no more, since it isn't known what it has.
+fn adds(rt: &impl Abort, store: &mut Shared) {
+    if !finds(rt, store) {
+        assert!(rt; finds(rt, store));
+    }
+    let came = append(store);
+    if came == Err(StoreFault::Memory) {
+        let later = append(store);
+        assert!(rt; later == Ok(Came::Added) || later == Err(StoreFault::Failed));
+    } else {
+        assert!(rt; came == Ok(Came::Added));
+    }
+}
+
 #[test]
 fn append_refused(rt: HostRuntime) {
-    let mut store = store_at_last(&rt, rt.alloc());
-    if !finds(&rt, &mut store) {
-        assert!(&rt; finds(&rt, &mut store));
-    }
-    match store.append(&NINE, None) {
-        Ok(added) => assert!(&rt; matches!(added, Appended::Done)),
-        Err(why) => {
-            assert!(&rt; why == StoreFault::Memory);
-            match store.append(&NINE, None) {
-                Ok(added) => assert!(&rt; matches!(added, Appended::Done)),
-                Err(why) => assert!(&rt; why == StoreFault::Failed),
-            }
-        }
-    }
+    let mut store = opened_at_last(&rt, rt.alloc());
+    adds(&rt, &mut store);
 }

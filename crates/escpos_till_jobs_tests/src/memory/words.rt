@@ -2,11 +2,11 @@
 //!
 //! A word that is refused memory prints `memory` and nothing else, and gives the store back; then the word is given again.
 
+use crate::support::asked::{Ask, Paths, asks, paths_of};
 use crate::support::tills::{
-    OneLedger, S, delivery_to, done_with, line_over, number, performed, printer_address,
+    Came, S, Told, came, delivery_to, done_with, line_over, number, printer_address,
 };
 use escpos_io::{ByteIn, MemoryIn, MemoryOut};
-use escpos_job_parts::ending::MEMORY;
 use escpos_job_parts::input::InputFault;
 use escpos_job_parts::receipt_input::NoReceipt;
 use escpos_job_parts::status::Status;
@@ -14,19 +14,14 @@ use escpos_receipt::{JsonError, ReceiptOptions};
 use escpos_till::{
     Entry, Failure, MemoryStore, NoStore, ReceiptContent, ReceiptKey, ReceiptState, TillMachine,
 };
-use escpos_till_jobs::{LedgerPath, NoLine, TillTask, Word, open_machine, read_content};
+use escpos_till_jobs::{NoLine, Word, open_machine, read_content};
 use std::alloc::Global;
 use std::process::Abort;
 
-// A word prints this. Answers no where memory is refused: then that alone is said.
-fn is_told(rt: &impl Abort, (put, status): (&[u8], Status), wanted: &[u8]) -> bool {
-    if status == Status::Memory {
-        assert!(rt; put == MEMORY);
-        return false;
-    }
-    assert!(rt; put == wanted);
-    assert!(rt; status == Status::Good);
-    true
+// What was to be told is. Answers no where memory is refused: then that alone is said.
+fn is_told(rt: &impl Abort, came: Came) -> bool {
+    assert!(rt; came != Came::Otherwise);
+    came == Came::AsSaid
 }
 
 // A store whose one entry raises the next mark number to 5.
@@ -39,32 +34,34 @@ fn raised_store(rt: &impl Abort, alloc: Global) -> MemoryStore {
     MemoryStore::new(alloc, entries, Failure::Never)
 }
 
-// The machine of a store's ledger. Where memory is refused, that is said, and it is opened again.
-fn machine_at_last(rt: &impl Abort, alloc: Global, store: &mut MemoryStore) -> TillMachine {
+// The machine of a store's ledger. None where memory is refused.
+fn machine_of(rt: &impl Abort, alloc: Global, store: &mut MemoryStore) -> Option<TillMachine> {
     match open_machine(alloc, store) {
-        Ok(machine) => machine,
+        Ok(machine) => Some(machine),
         Err(why) => {
             assert!(rt; why == NoStore::Memory);
-            match open_machine(alloc, store) {
-                Ok(machine) => machine,
-                Err(_) => panic!(rt; "no ledger"),
-            }
+            None
         }
     }
 }
 
-// The receipts of a store's ledger stand so, and the next mark has this number.
-fn stands(rt: &impl Abort, alloc: Global, store: &mut MemoryStore, state: ReceiptState, next: u32) {
-    let machine = machine_at_last(rt, alloc, store);
-    assert!(rt; machine.states() == [state].as_slice());
-    assert!(rt; machine.next_mark() == next);
+// Where memory is refused, it is opened again.
+fn machine_at_last(rt: &impl Abort, alloc: Global, store: &mut MemoryStore) -> TillMachine {
+    match machine_of(rt, alloc, store) {
+        Some(machine) => machine,
+        None => machine_of(rt, alloc, store).expect(rt, "a ledger"),
+    }
 }
 
-// S is read. Where memory is refused the source hasn't failed, and a new one is read.
-fn content_at_last(rt: &impl Abort, alloc: Global) -> ReceiptContent {
+fn next_mark(rt: &impl Abort, alloc: Global, store: &mut MemoryStore) -> u32 {
+    machine_at_last(rt, alloc, store).next_mark()
+}
+
+// S is read. None where memory is refused: then the source hasn't failed.
+fn content_of(rt: &impl Abort, alloc: Global) -> Option<ReceiptContent> {
     let mut source = MemoryIn::new(S, 7);
     match read_content(alloc, &ReceiptOptions::usual(), &mut source) {
-        Ok(content) => content,
+        Ok(content) => Some(content),
         Err(fault) => {
             assert!(rt;
                 matches!(
@@ -73,12 +70,16 @@ fn content_at_last(rt: &impl Abort, alloc: Global) -> ReceiptContent {
                 )
             );
             assert!(rt; !source.has_failed());
-            let mut source = MemoryIn::new(S, 7);
-            match read_content(alloc, &ReceiptOptions::usual(), &mut source) {
-                Ok(content) => content,
-                Err(_) => panic!(rt; "no receipt"),
-            }
+            None
         }
+    }
+}
+
+// Where memory is refused, a new source is read.
+fn content_at_last(rt: &impl Abort, alloc: Global) -> ReceiptContent {
+    match content_of(rt, alloc) {
+        Some(content) => content,
+        None => content_of(rt, alloc).expect(rt, "a receipt"),
     }
 }
 
@@ -88,202 +89,198 @@ fn read_content_refused(rt: HostRuntime) {
     assert!(&rt; content.bytes() == S);
 }
 
-fn queues(rt: &impl Abort, alloc: Global, store: MemoryStore) -> (MemoryStore, bool) {
+// A word that is given to a till.
+#[derive(Clone, Copy)]
+enum Call {
+    // S is taken, with a key.
+    Queue,
+    // The receipts are listed, and the next mark number is raised to 6.
+    List,
+    // The first receipt is cancelled, or taken once more, or delivered over a link on which the ledger's next two marks are answered.
+    Cancel,
+    Again,
+    Deliver,
+}
+
+fn word_of(rt: &impl Abort, alloc: Global, call: Call) -> Word<'static> {
+    match call {
+        Call::Queue => Word::Queue {
+            content: content_at_last(rt, alloc),
+            key: ReceiptKey::new(b"sale-7"),
+        },
+        Call::List => Word::List(Some(6)),
+        Call::Cancel => Word::Cancel(number(rt, 1)),
+        Call::Again => Word::Again(number(rt, 1)),
+        Call::Deliver => Word::Deliver(delivery_to(printer_address())),
+    }
+}
+
+fn wanted(call: Call) -> Told {
+    let line = match call {
+        Call::Queue => "queued 1\n",
+        Call::List => "1 waiting\nnext 6\n",
+        Call::Cancel => "cancelled 1\n",
+        Call::Again => "queued 2\n",
+        Call::Deliver => "recorded 1\n",
+    };
+    (line, Status::Good)
+}
+
+fn does_over_no_line(rt: &impl Abort, alloc: Global, store: &mut MemoryStore, call: Call) -> Came {
     let mut room = [0; 64];
     let mut output = MemoryOut::new(&mut room);
-    let content = content_at_last(rt, alloc);
-    let key = ReceiptKey::new(b"sale-7");
-    let word = Word::Queue { content, key };
-    let (store, status) = done_with(alloc, (store, NoLine), word, &mut output);
-    let is = is_told(rt, (output.written(), status), b"queued 1\n");
-    (store, is)
+    let word = word_of(rt, alloc, call);
+    let status = done_with(alloc, store, NoLine, word, &mut output);
+    came((output.written(), status), wanted(call))
 }
 
-// S waits in it.
-fn queued_at_last(rt: &impl Abort, alloc: Global) -> MemoryStore {
-    let (store, is) = queues(rt, alloc, raised_store(rt, alloc));
-    if is {
-        return store;
-    }
-    let (store, is) = queues(rt, alloc, store);
-    assert!(rt; is);
-    store
-}
-
-#[test]
-fn queue_refused(rt: HostRuntime) {
-    let mut store = queued_at_last(&rt, rt.alloc());
-    let waiting = ReceiptState::Waiting { tried: 0 };
-    stands(&rt, rt.alloc(), &mut store, waiting, 5);
-}
-
-fn lists(rt: &impl Abort, alloc: Global, store: MemoryStore) -> (MemoryStore, bool) {
-    let mut room = [0; 64];
-    let mut output = MemoryOut::new(&mut room);
-    let (store, status) = done_with(alloc, (store, NoLine), Word::List(Some(6)), &mut output);
-    let is = is_told(rt, (output.written(), status), b"1 waiting\nnext 6\n");
-    (store, is)
-}
-
-#[test]
-fn list_refused(rt: HostRuntime) {
-    let (listed, is) = lists(&rt, rt.alloc(), queued_at_last(&rt, rt.alloc()));
-    let mut store = listed;
-    if !is {
-        let (listed, is) = lists(&rt, rt.alloc(), store);
-        assert!(&rt; is);
-        store = listed;
-    }
-    let waiting = ReceiptState::Waiting { tried: 0 };
-    stands(&rt, rt.alloc(), &mut store, waiting, 6);
-}
-
-fn cancels(rt: &impl Abort, alloc: Global, store: MemoryStore) -> (MemoryStore, bool) {
-    let mut room = [0; 64];
-    let mut output = MemoryOut::new(&mut room);
-    let word = Word::Cancel(number(rt, 1));
-    let (store, status) = done_with(alloc, (store, NoLine), word, &mut output);
-    let is = is_told(rt, (output.written(), status), b"cancelled 1\n");
-    (store, is)
-}
-
-#[test]
-fn cancel_refused(rt: HostRuntime) {
-    let (cancelled, is) = cancels(&rt, rt.alloc(), queued_at_last(&rt, rt.alloc()));
-    let mut store = cancelled;
-    if !is {
-        let (cancelled, is) = cancels(&rt, rt.alloc(), store);
-        assert!(&rt; is);
-        store = cancelled;
-    }
-    let cancelled = ReceiptState::Cancelled { tried: 0 };
-    stands(&rt, rt.alloc(), &mut store, cancelled, 5);
-}
-
-fn takes_again(rt: &impl Abort, alloc: Global, store: MemoryStore) -> (MemoryStore, bool) {
-    let mut room = [0; 64];
-    let mut output = MemoryOut::new(&mut room);
-    let word = Word::Again(number(rt, 1));
-    let (store, status) = done_with(alloc, (store, NoLine), word, &mut output);
-    let is = is_told(rt, (output.written(), status), b"queued 2\n");
-    (store, is)
-}
-
-#[test]
-fn again_refused(rt: HostRuntime) {
-    let (taken, is) = takes_again(&rt, rt.alloc(), queued_at_last(&rt, rt.alloc()));
-    let mut store = taken;
-    if !is {
-        let (taken, is) = takes_again(&rt, rt.alloc(), store);
-        assert!(&rt; is);
-        store = taken;
-    }
-    let machine = machine_at_last(&rt, rt.alloc(), &mut store);
-    let waiting = ReceiptState::Waiting { tried: 0 };
-    assert!(&rt; machine.states() == [waiting, waiting].as_slice());
-}
-
-// Delivers the receipt over a link on which the ledger's next two marks are answered.
-fn delivers(rt: &impl Abort, alloc: Global, store: MemoryStore) -> (MemoryStore, bool) {
-    let mut store = store;
-    let answers = match machine_at_last(rt, alloc, &mut store).next_mark() {
+fn delivers(rt: &impl Abort, alloc: Global, store: &mut MemoryStore) -> Came {
+    let answers = match next_mark(rt, alloc, store) {
         5 => b"\x37\x220005\x00\x37\x220006\x00".as_slice(),
         _ => b"\x37\x220007\x00\x37\x220008\x00".as_slice(),
     };
     let (mut sent, mut room) = ([0; 100], [0; 64]);
     let mut output = MemoryOut::new(&mut room);
     let line = line_over(answers, &mut sent);
-    let delivery = delivery_to(printer_address());
-    let (store, status) = done_with(alloc, (store, line), Word::Deliver(delivery), &mut output);
-    let is = is_told(rt, (output.written(), status), b"recorded 1\n");
-    (store, is)
+    let word = word_of(rt, alloc, Call::Deliver);
+    let status = done_with(alloc, store, line, word, &mut output);
+    came((output.written(), status), wanted(Call::Deliver))
 }
+
+// Answers no where memory is refused.
+fn does(rt: &impl Abort, alloc: Global, store: &mut MemoryStore, call: Call) -> bool {
+    let came = match call {
+        Call::Deliver => delivers(rt, alloc, store),
+        _ => does_over_no_line(rt, alloc, store, call),
+    };
+    is_told(rt, came)
+}
+
+fn does_at_last(rt: &impl Abort, alloc: Global, store: &mut MemoryStore, call: Call) {
+    if !does(rt, alloc, store, call) {
+        assert!(rt; does(rt, alloc, store, call));
+    }
+}
+
+// The words that are given to a till whose ledger is `raised_store`; how the receipts stand then, and which number the next mark has, if that
+// is known.
+#[derive(Clone, Copy)]
+struct Row {
+    calls: &'static [Call],
+    states: &'static [ReceiptState],
+    next: Option<u32>,
+}
+
+fn stands(rt: &impl Abort, machine: &TillMachine, row: Row) {
+    assert!(rt; machine.states() == row.states);
+    if let Some(next) = row.next {
+        assert!(rt; machine.next_mark() == next);
+    }
+}
+
+fn does_all(rt: &impl Abort, alloc: Global, store: &mut MemoryStore, calls: &[Call]) {
+    for call in calls {
+        does_at_last(rt, alloc, store, *call);
+    }
+}
+
+// No other function of words owns a store.
+fn plays(rt: &impl Abort, alloc: Global, row: Row) {
+    let mut store = raised_store(rt, alloc);
+    does_all(rt, alloc, &mut store, row.calls);
+    let machine = machine_at_last(rt, alloc, &mut store);
+    stands(rt, &machine, row);
+}
+
+const WAITING: ReceiptState = ReceiptState::Waiting { tried: 0 };
+
+const QUEUED: Row = Row {
+    calls: &[Call::Queue],
+    states: &[WAITING],
+    next: Some(5),
+};
 
 #[test]
+fn queue_refused(rt: HostRuntime) {
+    plays(&rt, rt.alloc(), QUEUED);
+}
+
+const LISTED: Row = Row {
+    calls: &[Call::Queue, Call::List],
+    states: &[WAITING],
+    next: Some(6),
+};
+
+#[test]
+fn list_refused(rt: HostRuntime) {
+    plays(&rt, rt.alloc(), LISTED);
+}
+
+const CANCELLED: Row = Row {
+    calls: &[Call::Queue, Call::Cancel],
+    states: &[ReceiptState::Cancelled { tried: 0 }],
+    next: Some(5),
+};
+
+#[test]
+fn cancel_refused(rt: HostRuntime) {
+    plays(&rt, rt.alloc(), CANCELLED);
+}
+
+const TAKEN_AGAIN: Row = Row {
+    calls: &[Call::Queue, Call::Again],
+    states: &[WAITING, WAITING],
+    next: Some(5),
+};
+
+#[test]
+fn again_refused(rt: HostRuntime) {
+    plays(&rt, rt.alloc(), TAKEN_AGAIN);
+}
+
+const RECORDED: Row = Row {
+    calls: &[Call::Queue, Call::Deliver],
+    states: &[ReceiptState::Recorded { place: 0 }],
+    next: None,
+};
+
+// (a try that memory ends has used its numbers)
+#[test]
 fn deliver_refused(rt: HostRuntime) {
-    let (delivered, is) = delivers(&rt, rt.alloc(), queued_at_last(&rt, rt.alloc()));
-    let mut store = delivered;
-    if !is {
-        let (delivered, is) = delivers(&rt, rt.alloc(), store);
-        assert!(&rt; is);
-        store = delivered;
+    plays(&rt, rt.alloc(), RECORDED);
+}
+
+// What is asked of a ledger, where nobody is reached. Answers no where memory is refused.
+fn performs(rt: &impl Abort, alloc: Global, paths: &mut Paths, ask: Ask, told: Told) -> bool {
+    is_told(rt, asks(rt, alloc, paths, ("a", ask, told)))
+}
+
+fn performs_at_last(rt: &impl Abort, alloc: Global, paths: &mut Paths, ask: Ask, told: Told) {
+    if !performs(rt, alloc, paths, ask, told) {
+        assert!(rt; performs(rt, alloc, paths, ask, told));
     }
-    let machine = machine_at_last(&rt, rt.alloc(), &mut store);
-    assert!(&rt; machine.states() == [ReceiptState::Recorded { place: 0 }].as_slice());
 }
 
-// What is asked of a ledger, where nobody is reached: what is printed, and the status.
-fn performs(
-    rt: &impl Abort,
-    alloc: Global,
-    ledger: &mut OneLedger,
-    task: TillTask<'_>,
-    (wanted, good): (&[u8], Status),
-) -> bool {
-    let mut room = [0; 64];
-    let mut input = MemoryIn::new(S, 7);
-    let mut output = MemoryOut::new(&mut room);
-    let status = performed(alloc, ledger, task, &mut input, &mut output);
-    if status == Status::Memory {
-        assert!(rt; output.written() == MEMORY);
-        return false;
-    }
-    assert!(rt; output.written() == wanted);
-    assert!(rt; status == good);
-    true
-}
-
-// S is taken into a ledger at a path.
-fn takes(rt: &impl Abort, alloc: Global, ledger: &mut OneLedger) -> bool {
-    let task = TillTask::Queue {
-        ledger: LedgerPath::new("a"),
-        options: ReceiptOptions::usual(),
-        key: ReceiptKey::new(b"sale-7"),
-    };
-    performs(rt, alloc, ledger, task, (b"queued 1\n", Status::Good))
-}
-
-// It waits, since nobody is reached.
-fn waits(rt: &impl Abort, alloc: Global, ledger: &mut OneLedger) -> bool {
-    let task = TillTask::Deliver {
-        ledger: LedgerPath::new("a"),
-        delivery: delivery_to(printer_address()),
-        wait: None,
-    };
-    performs(
-        rt,
-        alloc,
-        ledger,
-        task,
-        (b"waiting 1 no link\n", Status::Device),
-    )
+// S is taken into a ledger at a path. It waits, since nobody is reached.
+fn performs_all(rt: &impl Abort, alloc: Global, paths: &mut Paths) {
+    let queued = ("queued 1\n", Status::Good);
+    performs_at_last(rt, alloc, paths, Ask::QueueWithKey(S, b"sale-7"), queued);
+    let no_link = ("waiting 1 no link\n", Status::Device);
+    performs_at_last(rt, alloc, paths, Ask::Deliver(None), no_link);
 }
 
 #[test]
 fn perform_refused(rt: HostRuntime) {
-    let mut ledger = OneLedger {
-        path: "a",
-        store: Some(raised_store(&rt, rt.alloc())),
-    };
-    if !takes(&rt, rt.alloc(), &mut ledger) {
-        assert!(&rt; takes(&rt, rt.alloc(), &mut ledger));
-    }
-    if !waits(&rt, rt.alloc(), &mut ledger) {
-        assert!(&rt; waits(&rt, rt.alloc(), &mut ledger));
-    }
+    let store = raised_store(&rt, rt.alloc());
+    let mut paths = paths_of(rt.alloc(), Some(store));
+    performs_all(&rt, rt.alloc(), &mut paths);
 }
 
 // A ledger without receipts goes on in another.
 fn renews(rt: &impl Abort, alloc: Global) -> bool {
-    let mut ledger = OneLedger {
-        path: "a",
-        store: Some(raised_store(rt, alloc)),
-    };
-    let task = TillTask::Renew {
-        ledger: LedgerPath::new("a"),
-        new: LedgerPath::new("b"),
-    };
-    performs(rt, alloc, &mut ledger, task, (b"renewed 0\n", Status::Good))
+    let mut paths = paths_of(alloc, Some(raised_store(rt, alloc)));
+    let renewed = ("renewed 0\n", Status::Good);
+    performs(rt, alloc, &mut paths, Ask::Renew("b"), renewed)
 }
 
 #[test]

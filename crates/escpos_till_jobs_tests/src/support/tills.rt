@@ -1,22 +1,30 @@
-//! Stores and ledgers in memory, links in memory and links of 127.0.0.1; what is asked of a till, and what it tells.
+//! Stores and ledgers in memory, links in memory and links of 127.0.0.1, and what a till tells.
+//!
+//! Few functions own a store: what a function owns is proved dropped at each way out of it. Calls of a till stand in functions that say
+//! nothing of what comes of them, so that the tests carry none of the contracts.
 
 ghost use Rattle.std.specs.Prelude.{◌≡◌};
 
 use escpos_addresses::printer_link::Printers;
+use escpos_command::LineWidth;
 use escpos_io::{ByteIn, ByteOut, MemoryIn, MemoryOut};
+use escpos_job_parts::ending::MEMORY;
+use escpos_job_parts::receipt_input::NoReceipt;
 use escpos_job_parts::status::Status;
 use escpos_receipt::ReceiptOptions;
+use escpos_text::Replacement;
 use escpos_till::{
     Content, Entry, Failure, MemoryStore, NoStore, PrinterLine, ReceiptContent, ReceiptNumber,
     Store, Surroundings,
 };
 use escpos_till_jobs::{
-    Delivery, Dial, LedgerPath, Ledgers, Link, LinkLine, NetworkLines, NewLedgers, NoRenewal,
-    TillTask, Word, do_with, perform_till, read_content,
+    Delivery, Dial, LedgerPath, Ledgers, Link, LinkLine, NoStream, Word, do_with, read_content,
+    read_raw,
 };
 use std::alloc::Global;
 use std::io;
 use std::io::Write;
+use std::mem::{replace, swap};
 use std::net::{Ipv4Addr, Net, Shutdown, SocketAddr, SocketAddrV4, TcpListener, TcpStream};
 use std::process::Abort;
 
@@ -30,20 +38,44 @@ pub type Told = (&'static str, Status);
 
 pub const FAILED: Told = ("ledger failed\n", Status::Device);
 
-pub fn is_told(rt: &impl Abort, told: (&[u8], Status), wanted: Told) {
-    assert!(rt; says_so(told, wanted), "{wanted:?}");
-}
-
 pub fn says_so((put, status): (&[u8], Status), wanted: Told) -> bool {
     put == wanted.0.as_bytes() && status == wanted.1
 }
 
-// S as it is read.
-pub fn receipt(rt: &impl Abort, alloc: Global) -> ReceiptContent {
-    match read_content(alloc, &ReceiptOptions::usual(), &mut MemoryIn::new(S, 7)) {
-        Ok(content) => content,
-        Err(_) => panic!(rt; "no receipt"),
+// What comes of a call: what is wanted is told; or that memory was refused, and nothing else is; or neither.
+#[derive(Clone, Copy, PartialEq)]
+pub enum Came {
+    AsSaid,
+    Refused,
+    Otherwise,
+}
+
+pub fn came((put, status): (&[u8], Status), wanted: Told) -> Came {
+    if says_so((put, status), wanted) {
+        return Came::AsSaid;
     }
+    if status == Status::Memory && put == MEMORY {
+        return Came::Refused;
+    }
+    Came::Otherwise
+}
+
+// A text as it is read, seven bytes at a time.
+pub fn read_text(
+    alloc: Global,
+    options: &ReceiptOptions,
+    text: &[u8],
+) -> Result<ReceiptContent, NoReceipt> {
+    read_content(alloc, options, &mut MemoryIn::new(text, 7))
+}
+
+// A stream as it is read, for lines of this width.
+pub fn read_bytes(
+    alloc: Global,
+    width: LineWidth,
+    stream: &[u8],
+) -> Result<ReceiptContent, NoStream> {
+    read_raw(alloc, width, &mut MemoryIn::new(stream, 7))
 }
 
 // Each receipt is sent to this address, with one opening mark.
@@ -56,11 +88,12 @@ pub fn delivery_to(address: SocketAddrV4) -> Delivery<'static> {
     }
 }
 
-// An entry of a ledger: S is taken; it is tried, and this is the next number; it is recorded; the next number is raised; it is
-// cancelled.
+// An entry of a ledger: S is taken; this text is taken, for lines of so many dots and with this replacement; a receipt is tried, and this is
+// the next number; it is recorded; the next number is raised; it is cancelled.
 #[derive(Clone, Copy)]
 pub enum Plain {
     Taken,
+    TakenFor(u16, u8, &'static [u8]),
     Tried(usize, u32),
     Recorded(usize),
     Raised(u32),
@@ -71,10 +104,26 @@ pub fn number(rt: &impl Abort, number: usize) -> ReceiptNumber {
     ReceiptNumber::new(number).expect(rt, "a number")
 }
 
+fn content_for(
+    rt: &impl Abort,
+    alloc: Global,
+    (dots, replacement): (u16, u8),
+    text: &[u8],
+) -> Content {
+    let options = ReceiptOptions {
+        width: LineWidth::new(dots).expect(rt, "a width"),
+        replacement: Replacement::new(replacement),
+    };
+    Content::with_options(text.to_vec(alloc).expect(rt, "memory"), options)
+}
+
 fn entry(rt: &impl Abort, alloc: Global, plain: Plain) -> Entry {
     match plain {
         Plain::Taken => Entry::Queued {
             content: Content::new(S.to_vec(alloc).expect(rt, "memory")),
+        },
+        Plain::TakenFor(dots, replacement, text) => Entry::Queued {
+            content: content_for(rt, alloc, (dots, replacement), text),
         },
         Plain::Tried(at, next) => Entry::Tried {
             number: number(rt, at),
@@ -91,13 +140,45 @@ fn entry(rt: &impl Abort, alloc: Global, plain: Plain) -> Entry {
     }
 }
 
+fn entries_of(rt: &impl Abort, alloc: Global, all: &[Plain]) -> Vec<Entry> {
+    let mut entries = Vec::new(alloc);
+    for plain in all {
+        let pushed = entries.push(entry(rt, alloc, *plain));
+        assert!(rt; pushed.is_ok());
+    }
+    entries
+}
+
 // A store with these entries.
 pub fn store_of(rt: &impl Abort, alloc: Global, entries: &[Plain]) -> MemoryStore {
-    let mut all = Vec::new(alloc);
-    for plain in entries {
-        let _ = all.push(entry(rt, alloc, *plain));
+    failing_store_of(rt, alloc, entries, Failure::Never)
+}
+
+// The same, which fails so.
+pub fn failing_store_of(
+    rt: &impl Abort,
+    alloc: Global,
+    entries: &[Plain],
+    failure: Failure,
+) -> MemoryStore {
+    MemoryStore::new(alloc, entries_of(rt, alloc, entries), failure)
+}
+
+// A store with so many entries, which raise the next number to 5.
+pub fn store_of_raises(rt: &impl Abort, alloc: Global, count: usize) -> MemoryStore {
+    let mut entries = Vec::new(alloc);
+    for _ in 0..count {
+        assert!(rt; entries.push(Entry::Raised { next: 5, heard: 0 }).is_ok());
     }
-    MemoryStore::new(alloc, all, Failure::Never)
+    MemoryStore::new(alloc, entries, Failure::Never)
+}
+
+// A store that is taken out of its place, where an empty one is then.
+pub fn taken_out(alloc: Global, store: &mut MemoryStore) -> MemoryStore {
+    replace(
+        store,
+        MemoryStore::new(alloc, Vec::new(alloc), Failure::Never),
+    )
 }
 
 // Dials one link in memory, which takes bytes at once and gives them soon, or is waited for.
@@ -146,16 +227,21 @@ impl<'a> Dial<MemoryIn<'a>, MemoryOut<'a>> for InMemory<'a> {
     }
 }
 
-// Does a word with the ledger of a store, over a line, and gives the store back.
+// Does a word with the ledger of a store, over a line.
 pub fn done_with<L: PrinterLine + Drop, W: ByteOut>(
     alloc: Global,
-    (store, line): (MemoryStore, L),
+    store: &mut MemoryStore,
+    line: L,
     word: Word<'_>,
     output: &mut W,
-) -> (MemoryStore, Status) {
-    let mut around = Surroundings { store, line };
+) -> Status {
+    let mut around = Surroundings {
+        store: taken_out(alloc, store),
+        line,
+    };
     let status = do_with(alloc, &mut around, word, output);
-    (around.store, status)
+    swap(store, &mut around.store);
+    status
 }
 
 // A line over one link, on which these answers come, seven bytes at a time. What is put goes to this room.
@@ -181,103 +267,8 @@ pub fn watched_line_over<'a>(
     })
 }
 
-// The ledger at one path, in memory. At any other path there is none.
-#[derive(Drop)]
-pub struct OneLedger {
-    pub path: &'static str,
-    pub store: Option<MemoryStore>,
-}
-
-impl Ledgers<MemoryStore> for OneLedger {
-    ghost opened = { λ old path result new. Unit {0} };
-
-    ghost closed = { λ old store new. Unit {0} };
-
-    // Until it is closed, it is in use.
-    fn open(&mut self, path: &LedgerPath<'_>) -> Result<MemoryStore, NoStore> {
-        if path.text() != self.path {
-            return Err(NoStore::NoLedger);
-        }
-        match self.store.take() {
-            Some(store) => Ok(store),
-            None => Err(NoStore::InUse),
-        }
-    }
-
-    fn close(&mut self, store: MemoryStore) {
-        self.store = Some(store);
-    }
-
-    fn is_turn_over(&self) -> bool {
-        false
-    }
-}
-
-// A new ledger may be written at one path, in memory. At any other path there is one already.
-#[derive(Drop)]
-pub struct NewLedger {
-    pub alloc: Global,
-    pub path: &'static str,
-    pub store: Option<MemoryStore>,
-}
-
-impl NewLedgers<MemoryStore> for NewLedger {
-    ghost begun = { λ old path result new. Unit {0} };
-
-    ghost finished = { λ old store path result new. Unit {0} };
-
-    fn begin(&mut self, path: &LedgerPath<'_>) -> Result<MemoryStore, NoRenewal> {
-        if path.text() != self.path {
-            return Err(NoRenewal::Exists);
-        }
-        Ok(MemoryStore::new(self.alloc, Vec::new(self.alloc), Failure::Never))
-    }
-
-    fn finish(&mut self, store: MemoryStore, _path: &LedgerPath<'_>) -> Result<(), NoRenewal> {
-        self.store = Some(store);
-        Ok(())
-    }
-}
-
-// What is asked of a ledger, where nobody is reached: its status.
-pub fn performed<R: ByteIn, W: ByteOut>(
-    alloc: Global,
-    ledger: &mut OneLedger,
-    task: TillTask<'_>,
-    input: &mut R,
-    output: &mut W,
-) -> Status {
-    let mut other = OneLedger {
-        path: "",
-        store: None,
-    };
-    let mut news = NewLedger {
-        alloc,
-        path: "b",
-        store: None,
-    };
-    performed_with(alloc, (ledger, &mut other, &mut news), task, input, output)
-}
-
-// The same where a new ledger may be written, and another is opened for what is shared, or for what isn't.
-pub fn performed_with<R: ByteIn, W: ByteOut>(
-    alloc: Global,
-    (ledger, other, news): (&mut OneLedger, &mut OneLedger, &mut NewLedger),
-    task: TillTask<'_>,
-    input: &mut R,
-    output: &mut W,
-) -> Status {
-    let mut lines = NetworkLines::new(&Nobody);
-    match task {
-        TillTask::Deliver { .. } | TillTask::Renew { .. } => {
-            perform_till(alloc, other, ledger, news, &mut lines, task, input, output)
-        }
-        task => perform_till(alloc, ledger, other, news, &mut lines, task, input, output),
-    }
-}
-
 // A ledger in memory, at the path a, to which others add entries: all of these, just before it is opened for the time with this number. Or
-// it loses all that it has then.
+// it is gone then.
 #[derive(Drop)]
 pub struct BusyLedger {
     pub store: Option<MemoryStore>,
@@ -289,24 +280,35 @@ pub struct BusyLedger {
     pub has_short_turns: bool,
 }
 
-// It has these entries, and others add those.
+// It has what a store has, and others add these entries.
 pub fn busy(
     rt: &impl Abort,
     alloc: Global,
-    entries: &[Plain],
+    store: MemoryStore,
     (at, added): (usize, &[Plain]),
 ) -> BusyLedger {
-    let mut others = Vec::new(alloc);
-    for plain in added {
-        let _ = others.push(entry(rt, alloc, *plain));
-    }
     BusyLedger {
-        store: Some(store_of(rt, alloc, entries)),
-        added: others,
+        store: Some(store),
+        added: entries_of(rt, alloc, added),
         at,
         is_lost: false,
         opened: 0,
         has_short_turns: false,
+    }
+}
+
+// Adds an entry, once more where memory was refused.
+fn add_at_last(store: &mut MemoryStore, entry: &Entry) {
+    if store.append(entry, None).is_err() {
+        let _ = store.append(entry, None);
+    }
+}
+
+fn add_all(store: &mut Option<MemoryStore>, entries: &[Entry]) {
+    if let Some(store) = store {
+        for entry in entries {
+            add_at_last(store, entry);
+        }
     }
 }
 
@@ -321,22 +323,17 @@ impl Ledgers<MemoryStore> for BusyLedger {
             return Err(NoStore::NoLedger);
         }
         self.opened = self.opened.saturating_add(1);
-        let Some(mut store) = self.store.take() else {
-            return Err(NoStore::InUse);
-        };
-        if self.opened != self.at {
-            return Ok(store);
-        }
-        if self.is_lost {
+        if self.opened == self.at && self.is_lost {
+            self.store = None;
             return Err(NoStore::NoLedger);
         }
-        for entry in &self.added {
-            // (once more where memory was refused)
-            if store.append(entry, None).is_err() {
-                let _ = store.append(entry, None);
-            }
+        if self.opened == self.at {
+            add_all(&mut self.store, &self.added);
         }
-        Ok(store)
+        match self.store.take() {
+            Some(store) => Ok(store),
+            None => Err(NoStore::InUse),
+        }
     }
 
     fn close(&mut self, store: MemoryStore) {
@@ -361,6 +358,14 @@ pub fn listens<N: Net<Stream = TcpStream, Listener = TcpListener> + Abort>(
         SocketAddr::V4(address) => (listener, address),
         SocketAddr::V6(_) => rt.abort(),
     }
+}
+
+// An address at which nobody listens any more.
+pub fn left_address<N: Net<Stream = TcpStream, Listener = TcpListener> + Abort>(
+    rt: &N,
+) -> SocketAddrV4 {
+    let (_listener, address) = listens(rt);
+    address
 }
 
 // Bytes of status. With an answer to a mark before them they fill a read, so that the next answer is read after it.
@@ -407,23 +412,3 @@ impl Net for Prepared<'_> {
 }
 
 impl Printers for Prepared<'_> {}
-
-// A network that reaches nobody.
-#[derive(Drop)]
-pub struct Nobody;
-
-impl Net for Nobody {
-    type Stream = TcpStream;
-
-    type Listener = TcpListener;
-
-    fn bind(&self, _addr: SocketAddr) -> io::Result<TcpListener> {
-        Err(io::Error::from(io::ErrorKind::AddrNotAvailable))
-    }
-
-    fn connect(&self, _addr: SocketAddr) -> io::Result<TcpStream> {
-        Err(io::Error::from(io::ErrorKind::NetworkUnreachable))
-    }
-}
-
-impl Printers for Nobody {}
