@@ -15,6 +15,11 @@ const MOST_CALLS: u64 = 80;
 
 const RAISED: &[Plain] = &[Plain::Raised(7, 0)];
 
+fn crash(files: &mut Files<Fuse<Memory>>) {
+    files.log.crash();
+    files.db.crash();
+}
+
 // After a crash the files are a ledger.
 fn opened_after_crash(
     rt: &impl Abort,
@@ -22,8 +27,7 @@ fn opened_after_crash(
     files: Files<Fuse<Memory>>,
 ) -> SqliteStore<FileStore<Fuse<Memory>>> {
     let mut files = files;
-    files.log.crash();
-    files.db.crash();
+    crash(&mut files);
     match open(rt, alloc, files, Options::new(2)) {
         Ok(store) => store,
         Err(_) => panic!(rt; "no store"),

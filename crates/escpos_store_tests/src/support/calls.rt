@@ -17,7 +17,7 @@ pub fn new_files(alloc: Global) -> Files<Memory> {
     }
 }
 
-// The store over these files; or why there is none, and the files.
+// The store of these files; or why there is none, and the files.
 pub fn open<D: Disk + Drop>(
     rt: &impl Abort,
     alloc: Global,
@@ -32,10 +32,14 @@ pub fn open<D: Disk + Drop>(
     }
 }
 
+// The files of a store that is closed; or why it isn't, and the files.
 pub fn close<D: Disk + Drop>(
     store: SqliteStore<FileStore<D>>,
-) -> Result<Files<D>, (StoreFault, Files<D>)> {
-    store.into_files()
+) -> (Result<(), StoreFault>, Files<D>) {
+    match store.into_files() {
+        Ok(files) => (Ok(()), files),
+        Err((why, files)) => (Err(why), files),
+    }
 }
 
 pub fn crash<D: Disk + Drop>(store: SqliteStore<FileStore<D>>) -> Files<D> {

@@ -141,16 +141,9 @@ pub fn opens(rt: &impl Abort, alloc: Global, ledger: &mut Ledger) -> Result<(), 
 
 // The store is closed, and its files come back, whatever the result.
 pub fn closes(rt: &impl Abort, ledger: &mut Ledger) -> Result<(), StoreFault> {
-    match close(ledger.store.take().expect(rt, "a store")) {
-        Ok(files) => {
-            ledger.files = files;
-            Ok(())
-        }
-        Err((why, files)) => {
-            ledger.files = files;
-            Err(why)
-        }
-    }
+    let (closed, files) = close(ledger.store.take().expect(rt, "a store"));
+    ledger.files = files;
+    closed
 }
 
 fn crashes(rt: &impl Abort, ledger: &mut Ledger) -> bool {
