@@ -74,7 +74,7 @@ fn ledger_of(rt: &impl Abort, alloc: Global, others: Others) -> BusyLedger {
     ledger
 }
 
-fn shared(rt: &impl Abort, alloc: Global, ledger: BusyLedger) -> Shared {
+fn opened(rt: &impl Abort, alloc: Global, ledger: BusyLedger) -> Shared {
     match SharedStore::open(alloc, ledger, &LedgerPath::new("a")) {
         Ok(store) => store,
         Err(_) => panic!(rt; "no store"),
@@ -113,7 +113,7 @@ fn plays(rt: &impl Abort, alloc: Global, row: &Row) {
     let (answers, pace) = row.printer;
     let mut sent = [0; 100];
     let mut around = Surroundings {
-        store: shared(rt, alloc, ledger_of(rt, alloc, row.others)),
+        store: opened(rt, alloc, ledger_of(rt, alloc, row.others)),
         line: watched_line_over(answers, &mut sent, pace),
     };
     delivers_and_has(rt, alloc, &mut around, row);
@@ -306,6 +306,6 @@ fn an_entry_is_not_kept(rt: HostRuntime) {
     let failure = Failure::BeforeKeeping { calls: 0 };
     let failing = failing_store_of(&rt, rt.alloc(), &[], failure);
     let ledger = busy(&rt, rt.alloc(), failing, (0, &[]));
-    let mut store = shared(&rt, rt.alloc(), ledger);
+    let mut store = opened(&rt, rt.alloc(), ledger);
     fails(&rt, rt.alloc(), &mut store);
 }

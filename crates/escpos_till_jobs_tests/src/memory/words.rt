@@ -4,7 +4,7 @@
 
 use crate::support::asked::{Ask, Paths, asks, paths_of};
 use crate::support::tills::{
-    Came, S, Told, came, delivery_to, done_with, line_over, number, printer_address,
+    Came, S, Told, delivery_to, done_with, line_over, number, printer_address, what_came,
 };
 use escpos_io::{ByteIn, MemoryIn, MemoryOut};
 use escpos_job_parts::input::InputFault;
@@ -131,7 +131,7 @@ fn does_over_no_line(rt: &impl Abort, alloc: Global, store: &mut MemoryStore, ca
     let mut output = MemoryOut::new(&mut room);
     let word = word_of(rt, alloc, call);
     let status = done_with(alloc, store, NoLine, word, &mut output);
-    came((output.written(), status), wanted(call))
+    what_came((output.written(), status), wanted(call))
 }
 
 fn delivers(rt: &impl Abort, alloc: Global, store: &mut MemoryStore) -> Came {
@@ -144,7 +144,7 @@ fn delivers(rt: &impl Abort, alloc: Global, store: &mut MemoryStore) -> Came {
     let line = line_over(answers, &mut sent);
     let word = word_of(rt, alloc, Call::Deliver);
     let status = done_with(alloc, store, line, word, &mut output);
-    came((output.written(), status), wanted(Call::Deliver))
+    what_came((output.written(), status), wanted(Call::Deliver))
 }
 
 // Answers no where memory is refused.

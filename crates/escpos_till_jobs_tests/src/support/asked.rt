@@ -2,7 +2,7 @@
 //! `plays` plays.
 
 use crate::support::tills::{
-    Came, Plain, Told, came, delivery_to, number, printer_address, store_of,
+    Came, Plain, Told, delivery_to, number, printer_address, store_of, what_came,
 };
 use escpos_addresses::printer_link::Printers;
 use escpos_command::LineWidth;
@@ -231,7 +231,7 @@ pub fn asks(
     let mut output = MemoryOut::new(&mut room);
     let task = task_of(rt, path, ask);
     let status = performed(alloc, paths, task, &mut input, &mut output);
-    came((output.written(), status), told)
+    what_came((output.written(), status), told)
 }
 
 fn moves(paths: &mut Paths) -> bool {

@@ -50,7 +50,7 @@ pub enum Came {
     Otherwise,
 }
 
-pub fn came((put, status): (&[u8], Status), wanted: Told) -> Came {
+pub fn what_came((put, status): (&[u8], Status), wanted: Told) -> Came {
     if says_so((put, status), wanted) {
         return Came::AsSaid;
     }
