@@ -15,7 +15,8 @@ const MOST_CALLS: u64 = 80;
 
 const RAISED: &[Plain] = &[Plain::Raised(7, 0)];
 
-fn crash(files: &mut Files<Fuse<Memory>>) {
+// The machine stops, and comes back.
+fn stop(files: &mut Files<Fuse<Memory>>) {
     files.log.crash();
     files.db.crash();
 }
@@ -27,7 +28,7 @@ fn opened_after_crash(
     files: Files<Fuse<Memory>>,
 ) -> SqliteStore<FileStore<Fuse<Memory>>> {
     let mut files = files;
-    crash(&mut files);
+    stop(&mut files);
     match open(rt, alloc, files, Options::new(2)) {
         Ok(store) => store,
         Err(_) => panic!(rt; "no store"),

@@ -110,20 +110,20 @@ impl NewLedgers<MemoryStore> for NewLedger {
 // it is nowhere.
 #[derive(Drop)]
 pub struct Paths {
-    old: OneLedger,
+    ledger: OneLedger,
     other: OneLedger,
-    new: NewLedger,
+    news: NewLedger,
 }
 
 // Paths with the ledger of this store.
 pub fn paths_of(alloc: Global, store: Option<MemoryStore>) -> Paths {
     Paths {
-        old: OneLedger { path: "a", store },
+        ledger: OneLedger { path: "a", store },
         other: OneLedger {
             path: "",
             store: None,
         },
-        new: NewLedger {
+        news: NewLedger {
             alloc,
             path: "b",
             store: None,
@@ -144,8 +144,8 @@ fn performed<R: ByteIn, W: ByteOut>(
         TillTask::Deliver { .. } | TillTask::Renew { .. } => perform_till(
             alloc,
             &mut paths.other,
-            &mut paths.old,
-            &mut paths.new,
+            &mut paths.ledger,
+            &mut paths.news,
             &mut lines,
             task,
             input,
@@ -153,9 +153,9 @@ fn performed<R: ByteIn, W: ByteOut>(
         ),
         task => perform_till(
             alloc,
-            &mut paths.old,
+            &mut paths.ledger,
             &mut paths.other,
-            &mut paths.new,
+            &mut paths.news,
             &mut lines,
             task,
             input,
@@ -235,7 +235,7 @@ pub fn asks(
 }
 
 fn moves(paths: &mut Paths) -> bool {
-    paths.old.store = paths.new.store.take();
+    paths.ledger.store = paths.news.store.take();
     true
 }
 
