@@ -10,7 +10,8 @@ use sqlite::Alter;
 use std::alloc::Global;
 use std::process::Abort;
 
-const LONGEST_KEY: [u8; 64] = [b'~'; 64];
+// A key of 64 characters.
+const LONGEST_KEY: &[u8] = b"~~~~~~~~~~~~~~~~~~~~~~~~~~~~~~~~~~~~~~~~~~~~~~~~~~~~~~~~~~~~~~~~";
 
 // An entry of each kind, and some at the ends of their ranges.
 const KINDS: &[Plain] = &[
@@ -23,7 +24,7 @@ const KINDS: &[Plain] = &[
     Plain::Cancelled(1),
     Plain::Key(b"!"),
     Plain::Key(b"sale-7"),
-    Plain::Key(&LONGEST_KEY),
+    Plain::Key(LONGEST_KEY),
     Plain::Renewed(u32::MAX, 6),
     Plain::Renewed(0, u32::MAX),
     Plain::Earlier(1, b"sale-8"),
