@@ -4,7 +4,7 @@
 //! the dots read so far, and how many bytes of them are still to come. The half command that contracts speak of is computed
 //! from these; it isn't kept.
 
-ghost use Rattle.std.specs.Prelude.{ℕ, List, ◌≡◌, ◌<◌, ◌≤◌, [], ◌∷◌, ◌++◌, length, map, take, IsTrue, IfSome, Ok, Err};
+ghost use Rattle.std.specs.Prelude.{ℕ, List, ◌≡◌, ◌<◌, ◌≤◌, [], ◌∷◌, ◌++◌, length, map, take, IsTrue, IfSome, Ok, Err, None, false};
 ghost use Rattle.std.specs.List.{AllPass};
 ghost use Rattle.escpos_command.specs.Parameters.{is_character};
 ghost use Rattle.escpos_command.specs.declared.command.Command.{Command};
@@ -13,7 +13,7 @@ ghost use Rattle.escpos_command.specs.Grammar.{Reads};
 ghost use Rattle.escpos_command.specs.CommandTable.{IsCommand};
 ghost use Rattle.escpos_command.specs.Laws.{longest_spelling};
 ghost use Rattle.escpos_command.specs.Places.{reason_after};
-ghost use Rattle.escpos_decode.specs.State.{command_of, completed};
+ghost use Rattle.escpos_decode.specs.State.{NextIs, command_of, completed, has_content, holds};
 ghost use Rattle.escpos_decode.specs.Push.{IsRest, PushIs, GoesOn, AheadIs, begins_content};
 ghost use Rattle.escpos_decode.specs.declared.decoder.DecodeFault.TheVariants.{Memory};
 ghost use Rattle.escpos_decode.specs.declared.decoder.Step.TheVariants.{Done};
@@ -29,19 +29,30 @@ use std::mem;
 pub struct Decoder {
     state: State,
     content: Vec<u8>,
+    // The byte that was looked at, if nothing was taken since.
+    looked: Option<Look>,
     alloc: Global,
 }
 
+// A byte, and where it leads from where the decoder stands.
+#[derive(Drop)]
+struct Look {
+    byte: u8,
+    next: Next,
+}
+
 impl Model for Decoder {
-    ghost use Rattle.std.specs.Prelude.{List, ℕ, ◌+◌, ◌≤◌, ◌++◌, vec_len, vec_capacity};
-    ghost use Rattle.escpos_decode.specs.State.{prefix_of, wanted_at, IsAt};
+    ghost use Rattle.std.specs.Prelude.{List, ℕ, ◌+◌, ◌≤◌, ◌++◌, IfSome, vec_len, vec_capacity};
+    ghost use Rattle.escpos_decode.specs.State.{NextIs, prefix_of, wanted_at, IsAt};
 
     ghost Value = { List ℕ };
 
     ghost view = { λ d. prefix_of d.state ++ d.content.items };
 
-    // A decoder may stand at this state, and has room for the bytes of content that are still to come there.
-    ghost invariant = { λ d. IsAt d.state d.content.items × (vec_len d.content + wanted_at d.state ≤ vec_capacity d.content) };
+    // A decoder may stand at this state, and has room for the bytes of content that are still to come there. A byte that was
+    // looked at leads on from there.
+    ghost invariant = { λ d. IsAt d.state d.content.items × (vec_len d.content + wanted_at d.state ≤ vec_capacity d.content)
+        × IfSome d.looked (λ look. NextIs look.next d.state d.content.items look.byte) };
 }
 
 /// What a byte that isn't refused makes of the half command.
@@ -110,11 +121,12 @@ impl Decoder {
         Decoder {
             state: State::Start,
             content: Vec::new(alloc),
+            looked: None,
             alloc,
         }
     }
 
-    /// Takes one byte. `DecodeFault` says what each fault leaves.
+    /// Takes one byte. `DecodeFault` says what each fault leaves. After `look` of this byte the table isn't searched again.
     #[inline]
     pub fn push(&mut self, byte: u8) -> Result<Step, DecodeFault>
         ensures step { PushIs result self.old byte self.new }
@@ -192,6 +204,7 @@ impl Decoder {
             return 0;
         };
         let count = bytes.len().min(wanted as usize - 1);
+        self.looked = None;
         self.content.extend_from_slice(&bytes[..count]).unwrap();
         self.state = State::Dots {
             scale,
@@ -202,13 +215,13 @@ impl Decoder {
         count
     }
 
-    // Takes one byte by the table.
+    // Takes one byte by the table, or by what was looked up there.
     #[inline(never)]
     fn take(&mut self, byte: u8) -> Result<Step, DecodeFault>
         ensures step { PushIs result self.old byte self.new }
         ensures memory { result ≡ Err Memory → IsTrue (begins_content (self.old ++ byte ∷ [])) }
     {
-        match self.state.next(self.content.as_slice(), byte) {
+        match led_to(&mut self.looked, self.state, self.content.as_slice(), byte) {
             Next::Refused => Err(self.refuse()),
             Next::To(state) => {
                 self.state = state;
@@ -267,11 +280,16 @@ impl Decoder {
         let _ = &self.state;
     }
 
-    /// What `push` of the byte would complete. Changes nothing and allocates nothing.
-    pub fn would_complete(&self, byte: u8) -> Ahead
-        ensures { AheadIs result self.now byte }
+    /// What `push` of the byte would complete. The half command stays as it is. Allocates nothing.
+    #[inline]
+    pub fn look(&mut self, byte: u8) -> Ahead
+        ensures ahead { AheadIs result self.old byte }
+        ensures same { self.new ≡ self.old }
     {
-        completed(&self.state.next(self.content.as_slice(), byte))
+        let next = self.state.next(self.content.as_slice(), byte);
+        let ahead = completed(&next);
+        self.looked = Some(Look { byte, next });
+        ahead
     }
 
     /// The number of bytes of the half command, at most 524,167: fewer than the longest spelling has. Allocates nothing.
@@ -291,7 +309,23 @@ impl Decoder {
         ensures { self.new ≡ [] }
     {
         self.state = State::Start;
+        self.looked = None;
         self.content = Vec::new(self.alloc);
+    }
+}
+
+// Where the byte leads from this state and content: what was looked up, if it was this byte. Nothing is kept of that.
+#[inline]
+fn led_to(looked: &mut Option<Look>, state: State, content: &[u8], byte: u8) -> Next
+    requires held { IsTrue (holds state) }
+    requires empty { has_content state ≡ false → content.now ≡ [] }
+    requires looked { IfSome looked.old (λ look. NextIs look.next state content.now look.byte) }
+    ensures next { NextIs result state content.now byte }
+    ensures none { looked.new ≡ None }
+{
+    match looked.take() {
+        Some(look) if look.byte == byte => look.next,
+        _ => state.next(content, byte),
     }
 }
 
@@ -316,6 +350,7 @@ fn is_character(byte: u8) -> bool
 }
 
 // What a step completes.
+#[inline]
 fn completed(next: &Next) -> Ahead
     ensures { result ≡ completed next.now }
 {

@@ -138,7 +138,7 @@ impl Printer {
         ensures taken { OnOk result ((commands : List Command) × Took self.old (byte ∷ []) commands self.new) }
         ensures stopped { IfErr result (λ stop. HasCause stop self.old byte × IsPlace stop at × IsLeft stop self.old self.new) }
     {
-        let ahead = self.decoder.would_complete(byte);
+        let ahead = self.decoder.look(byte);
         if let Some(stop) = obstacle(ahead, self.condition.is_offline(), is_full(&self.waiting)) {
             return Err(stop);
         }

@@ -35,8 +35,8 @@ pub fn agrees_with_neighbours(rt: &impl Abort, alloc: Global, spelling: &[u8]) {
 }
 
 // What a decoder says of a byte, with nothing of what its contract says of that.
-fn ahead(decoder: &Decoder, byte: u8) -> Ahead {
-    decoder.would_complete(byte)
+fn ahead(decoder: &mut Decoder, byte: u8) -> Ahead {
+    decoder.look(byte)
 }
 
 // Whether these bytes are a half command, about which the plain reader and the decoder agree that holds all but the last.

@@ -1,8 +1,8 @@
-use Rattle.std.proofs.Common.{◌≢◌, ◌∷◌, [], refl, rules}
+use Rattle.std.proofs.Common.{◌∷◌, [], refl}
 use Rattle.escpos_command.specs.declared.command.Command.TheVariants as kind
 use Rattle.escpos_decode.specs.declared.state.State.TheVariants as state
 use Rattle.escpos_command.proofs.TableTree.{at_form, leads_character}
-use Rattle.escpos_decode.proofs.Letters.{at_start, moves, ends, no_first}
+use Rattle.escpos_decode.proofs.Letters.{at_start, moves, ends}
 use Rattle.std.proofs.Common.{◌∙◌, sym, ap}
 use Rattle.escpos_command.specs.Tree.{leaf}
 use Rattle.escpos_decode.proofs.state.start.Goals as goal

@@ -76,3 +76,8 @@ pub returns-in-Err-Memory-clause-never_usage : goal.returns-in-Err-Memory-clause
 returns-in-Err-Memory-clause-never_usage g c =
     let (k, inside, (cs, read, taken), next, begins) = rw c.new-decoder.ensures at (rw c.in-Err-Memory.field-0-is at c.in-Err-Memory.ensures.stopped) in
     never_usage _ _ _ (c.finish-in-Err-Memory.ensures.says c.args.width _ cs c.new-job.ensures taken) memory_is_no_usage
+
+pub returns-in-Err-Memory-clause-not_hidden : goal.returns-in-Err-Memory-clause-not_hidden
+returns-in-Err-Memory-clause-not_hidden g c = λ status well.
+    let (k, inside, (cs, read, taken), next, begins) = rw c.new-decoder.ensures at (rw c.in-Err-Memory.field-0-is at c.in-Err-Memory.ensures.stopped) in
+    c.finish-in-Err-Memory.ensures.not_hidden status (g.met.J.Job.well _ _ cs taken well)

@@ -5,4 +5,4 @@ use Rattle.escpos_decode.proofs.States.{at_start}
 use Rattle.escpos_decode.proofs.decoder.Decoder.clear.Goals as goal
 
 pub invariant_of-self : goal.invariant_of-self
-invariant_of-self c = (subst (λ v. IsAt Start v) (sym c.new.ensures.items) at_start, omega (arith, c.new.ensures.len))
+invariant_of-self c = (subst (λ v. IsAt Start v) (sym c.new.ensures.items) at_start, omega (arith, c.new.ensures.len), tt)

@@ -20,6 +20,7 @@ invariant_of-self c =
           (at_run c.in-Dots.scale c.in-Dots.width c.in-Dots.height c.in-Dots.wanted content.items run c.extend_from_slice.new.self.items at
           (omega (arith, c.min-count.ensures, some, long)) (bytes_pass c.args.bytes.now c.min-count.result c.type_inv.bytes) items),
       omega (arith, len, long, wanted, c.self.invariant.1, c.extend_from_slice.ensures.capacity, c.min-count.ensures, some),
+      tt,
     )
 
 pub returns-clause-stream : goal.returns-clause-stream

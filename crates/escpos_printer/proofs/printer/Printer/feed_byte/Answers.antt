@@ -7,25 +7,29 @@ use Rattle.escpos_printer.proofs.printer.Printer.feed_byte.Goals as goal
 
 pub returns-in-Some-clause-stopped : goal.returns-in-Some-clause-stopped
 returns-in-Some-clause-stopped c =
-    subst (λ (v : PrinterView). HasCause c.in-Some.stop v c.args.byte × IsPlace c.in-Some.stop c.args.at × IsLeft c.in-Some.stop v v) c.self.view_is
-    (blocked _ c.args.byte c.args.at _ _ _ c.in-Some.stop (sym c.is_offline.ensures)
+    subst
+    (λ (v : PrinterView). HasCause c.in-Some.stop v c.args.byte × IsPlace c.in-Some.stop c.args.at
+    × IsLeft c.in-Some.stop v (record { sheet = c.self.inside.page.sheet; half = c.look-ahead.new.self; waiting = c.self.inside.waiting.items; condition = c.self.inside.condition; automatic = c.self.inside.reporting }))
+    c.self.view_is
+    (rw c.look-ahead.ensures.same (blocked _ c.args.byte c.args.at _ _ _ c.in-Some.stop (sym c.is_offline.ensures)
     (sym c.is_full.ensures)
-    c.would_complete-ahead.ensures (sym c.obstacle.ensures ∙ c.in-Some.is))
+    c.look-ahead.ensures.ahead (sym c.obstacle.ensures ∙ c.in-Some.is)))
 
 pub returns-then-is_err-clause-stopped : goal.returns-then-is_err-clause-stopped
 returns-then-is_err-clause-stopped c =
     subst
     (λ (v : PrinterView). HasCause Memory v c.args.byte × IsPlace Memory c.args.at
-    × IsLeft Memory v (record { sheet = c.make_room.new.page.sheet; half = c.self.inside.decoder; waiting = c.self.inside.waiting.items; condition = c.self.inside.condition; automatic = c.self.inside.reporting }))
+    × IsLeft Memory v (record { sheet = c.make_room.new.page.sheet; half = c.look-ahead.new.self; waiting = c.self.inside.waiting.items; condition = c.self.inside.condition; automatic = c.self.inside.reporting }))
     c.self.view_is
-    (unready_left one_command _ c.args.byte c.args.at _ _ _ c.make_room.new.page.sheet (sym c.is_offline.ensures)
+    (rw c.look-ahead.ensures.same (unready_left one_command _ c.args.byte c.args.at _ _ _ c.make_room.new.page.sheet (sym c.is_offline.ensures)
     (sym c.is_full.ensures)
     c.self.invariant.2.room (where_err c.make_room.result _ (sym c.is_err.ensures.value ∙ c.if-is_err.true) c.make_room.ensures.command)
-    c.would_complete-ahead.ensures (sym c.obstacle.ensures ∙ c.in_default.is) c.make_room.ensures.same)
+    c.look-ahead.ensures.ahead (sym c.obstacle.ensures ∙ c.in_default.is) c.make_room.ensures.same))
 
 pub returns-in-Ok-More-clause-taken : goal.returns-in-Ok-More-clause-taken
 returns-in-Ok-More-clause-taken c =
-    let step = rw c.in-Ok-More.field-0-is at c.in-Ok-More.ensures.step in (
+    let pushed = rw c.in-Ok-More.field-0-is at c.in-Ok-More.ensures.step in
+    let step = rw c.look-ahead.ensures.same at pushed in (
       [],
       subst
           (λ (v : PrinterView). Took v (c.args.byte ∷ []) []
@@ -39,32 +43,36 @@ passes_at : (c : goal.After-unwrap)
     (record { sheet = c.self.inside.page.sheet; half = c.self.inside.decoder; waiting = c.self.inside.waiting.items; condition = c.self.inside.condition; automatic = c.self.inside.reporting })
     c.in-Ok-Done.command
 passes_at c =
-    let step = rw c.in-Ok-Done.field-0-is at c.in-Ok-Done.ensures.step in
+    let pushed = rw c.in-Ok-Done.field-0-is at c.in-Ok-Done.ensures.step in
+    let step = rw c.look-ahead.ensures.same at pushed in
     passes one_command _ c.args.byte _ _ _ c.in-Ok-Done.command (sym c.is_offline.ensures)
     (sym c.is_full.ensures)
-    c.self.invariant.2.room step.0 c.would_complete-ahead.ensures (sym c.obstacle.ensures ∙ c.in_default.is)
+    c.self.invariant.2.room step.0 c.look-ahead.ensures.ahead (sym c.obstacle.ensures ∙ c.in_default.is)
 
 pub put_reply-requires-clause-room : goal.put_reply-requires-clause-room
 put_reply-requires-clause-room c =
-    let step = rw c.in-Ok-Done.field-0-is at c.in-Ok-Done.ensures.step in
+    let pushed = rw c.in-Ok-Done.field-0-is at c.in-Ok-Done.ensures.step in
+    let step = rw c.look-ahead.ensures.same at pushed in
     let pass =
     passes one_command
     (record { sheet = c.self.inside.page.sheet; half = c.self.inside.decoder; waiting = c.self.inside.waiting.items; condition = c.self.inside.condition; automatic = c.self.inside.reporting })
     c.args.byte _ _ _ c.in-Ok-Done.command (sym c.is_offline.ensures) (sym c.is_full.ensures)
-    c.self.invariant.2.room step.0 c.would_complete-ahead.ensures (sym c.obstacle.ensures ∙ c.in_default.is) in
+    c.self.invariant.2.room step.0 c.look-ahead.ensures.ahead (sym c.obstacle.ensures ∙ c.in_default.is) in
     others_after c.self.inside.waiting.items _ pass.fits
 
 pub unwrap-requires : goal.unwrap-requires
 unwrap-requires c =
-    let step = rw c.in-Ok-Done.field-0-is at c.in-Ok-Done.ensures.step in
+    let pushed = rw c.in-Ok-Done.field-0-is at c.in-Ok-Done.ensures.step in
+    let step = rw c.look-ahead.ensures.same at pushed in
     c.apply.ensures.no_memory
     (where_ok c.make_room.result _ (sym c.is_err.ensures.value ∙ c.if-is_err.false) c.make_room.ensures.room (completes
     (record { sheet = c.self.inside.page.sheet; half = c.self.inside.decoder; waiting = c.self.inside.waiting.items; condition = c.self.inside.condition; automatic = c.self.inside.reporting })
-    c.args.byte _ c.in-Ok-Done.command c.would_complete-ahead.ensures step.0))
+    c.args.byte _ c.in-Ok-Done.command c.look-ahead.ensures.ahead step.0))
 
 pub returns-in-Ok-Done-clause-taken : goal.returns-in-Ok-Done-clause-taken
 returns-in-Ok-Done-clause-taken c =
-    let step = rw c.in-Ok-Done.field-0-is at c.in-Ok-Done.ensures.step in
+    let pushed = rw c.in-Ok-Done.field-0-is at c.in-Ok-Done.ensures.step in
+    let step = rw c.look-ahead.ensures.same at pushed in
     let taken = rw c.unwrap.ensures at c.apply.ensures.taken in (
       c.in-Ok-Done.command ∷ [],
       subst
