@@ -453,6 +453,17 @@ fn append_byte(gather: &mut Gather, byte: u8)
     if matches!(byte, 0x20..=0x7E) && byte != b'[' && byte != b'\\' {
         gather.push(byte);
     } else {
-        append_digits_after(gather, b'\\', byte);
+        append_escaped(gather, byte);
     }
+}
+
+// Appends \ and two hexadecimal digits.
+#[inline(never)]
+fn append_escaped(gather: &mut Gather, byte: u8)
+    requires { length gather.old.kept + 3 ≤ GATHERED_BYTES }
+    ensures kept { gather.new.kept ≡ gather.old.kept ++ 0x5C ∷ encode_lower (byte ∷ []) }
+    ensures same_count { gather.new.written ≡ gather.old.written }
+    ensures short { length (encode_lower (byte ∷ [])) ≡ 2 }
+{
+    append_digits_after(gather, b'\\', byte);
 }
