@@ -31,6 +31,3 @@ pub use dots::DotPicture;
 pub use fault::{ImageError, ImageFault};
 pub use picture::GrayPicture;
 pub use whole::image_entries;
-
-#[cfg(test)]
-mod tests;

@@ -16,8 +16,6 @@ mod fields;
 pub mod laws;
 mod lines;
 mod row;
-#[cfg(test)]
-mod tests;
 mod wrapped;
 mod writing;
 

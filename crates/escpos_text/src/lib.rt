@@ -17,8 +17,6 @@ mod plain;
 mod reading;
 mod sets;
 mod tables;
-#[cfg(test)]
-mod tests;
 mod writing;
 
 pub use choice::{Choice, MOST_TABLES};

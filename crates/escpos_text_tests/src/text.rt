@@ -1,6 +1,6 @@
 //! Texts that are written, and one that is refused: what a body that only answers out of memory wouldn't do.
 
-use crate::{Choice, Encoding, Replacement, TextFault, write_text};
+use escpos_text::{Choice, Encoding, Replacement, TextFault, write_text};
 use std::test::Fail;
 
 #[test]

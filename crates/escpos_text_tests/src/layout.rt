@@ -1,9 +1,9 @@
 //! Worked rows of each layout, one text that is refused, and a change of code table from line to line.
 
-use crate::{
+use escpos_command::{FontFace, LineWidth};
+use escpos_layout::{
     Characters, Columns, Field, Side, fits_line, write_pair, write_row, write_rule, write_wrapped,
 };
-use escpos_command::{FontFace, LineWidth};
 use escpos_paper::Style;
 use escpos_text::{Choice, Encoding, TextFault};
 use std::test::Fail;

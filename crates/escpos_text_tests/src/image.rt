@@ -1,7 +1,7 @@
 //! Worked pictures of each format, and what is refused.
 
-use crate::{DotPicture, GrayPicture, ImageError, ImageFault, image_entries};
 use escpos_command::LineWidth;
+use escpos_image::{DotPicture, GrayPicture, ImageError, ImageFault, image_entries};
 use std::test::Fail;
 
 #[test]
