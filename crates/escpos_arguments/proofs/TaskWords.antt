@@ -3,7 +3,7 @@ use Rattle.std.proofs.Common.{◌≡◌, ◌⊎◌, ◌∙◌, ◌||◌, ◌&&�
 use Rattle.std.specs.Prelude.{if◌then◌else◌, IfOk, IsSomeAnd}
 use Rattle.std.specs.Box.{box_value}
 use Rattle.std.specs.Str.{bytes_eq}
-use Rattle.clap.specs.Words.{App, Row, Rule, Shape, Text, app_of, built, fault_of, first_of, one_of, is_simple_and_free, is_simple, subcommand_of, subcommand_rows, subcommand_rows_of, subcommand_name_of, FailsBy, HasKind, Kinds, HasMatchesOf, kind_of, IsAmong}
+use Rattle.clap.specs.Words.{App, Row, Rule, Shape, Text, app_of, built, fault_of, is_simple_and_free, is_simple, subcommand_of, subcommand_rows, subcommand_rows_of, subcommand_name_of, FailsBy, HasKind, Kinds, HasMatchesOf, kind_of, IsAmong}
 use Rattle.clap.specs.Walk.{Held, Names, Outcome, Step, Walk, after_flag, after_step, answers_to, idle, nothing_held, done, waits, plain, refused, short_or_plain, long_or_other, stop_after, subcommand_met, subcommand_or_other, trailing, walk_from, walked}
 use Rattle.clap.specs.Simple.{names_of, entered}
 use Rattle.clap.specs.Lexer.{long_of, short_of}

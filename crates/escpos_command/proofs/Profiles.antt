@@ -1,29 +1,22 @@
 -- The laws of an earlier profile, from one fact for each command of the table that the profile lacks: where its spelling parts
 -- from the commands that the profile has. Nothing else here is about a kind of command.
 use Rattle.std.proofs.Common.{zero, suc, ◌≡◌, ◌⊎◌, inl, inr, ℕ, List, [], ◌∷◌, ◌++◌, length, take, refl, sym, ◌∙◌, ap, subst, append_assoc, append-nil, arith, Bool, true, false, cond, IsTrue, length-append, Option, None, Some}
-use Rattle.std.specs.Prelude.{◌==◌, slice_index, option_to_list}
+use Rattle.std.specs.Prelude.{slice_index}
 use Rattle.std.specs.List.{AllByRecursion}
 use Rattle.std.proofs.lemmas.Grind.{flat_map-append}
 use Rattle.std.proofs.Math.Seq.{take-append_seam, get_or-append_seam}
 use Rattle.escpos_command.specs.declared.command.Command.{Command}
 use Rattle.escpos_command.specs.declared.fault.FaultReason.{FaultReason}
 use Rattle.escpos_command.specs.CommandTable.{Spells, IsCommand, row, spell}
-use Rattle.escpos_command.specs.declared.command.Command.TheVariants as kind
-use Rattle.escpos_command.specs.declared.setting.Row.{Row}
-use Rattle.escpos_command.specs.declared.setting.SettingKind.{SettingKind}
 use Rattle.escpos_command.specs.declared.setting.Values.{Values}
 use Rattle.escpos_command.specs.declared.setting.Values.TheVariants as values
-use Rattle.escpos_command.specs.Grammar.{Viable, Half, Reads, FaultAt}
-use Rattle.escpos_command.specs.SettingTable.{table, may_follow, is_nothing, fits, row_prefix, row_for}
+use Rattle.escpos_command.specs.Grammar.{Half, Reads, FaultAt}
+use Rattle.escpos_command.specs.SettingTable.{fits}
 use Rattle.escpos_command.specs.Places.{reason_after}
-use Rattle.escpos_command.specs.Prefixes.{has_form, tree_after}
 use Rattle.escpos_command.specs.Profiles.{ViableIn, HalfIn, ReadsIn, FaultAtIn, IsReadIn, IsRefusedIn}
-use Rattle.escpos_command.specs.Tree.{Tree, dead, leaf, node, walk, forms, grammar, one, none, branch, these, passing, counted}
+use Rattle.escpos_command.specs.Tree.{Tree, dead, leaf, node, walk, grammar, none, counted}
 use Rattle.escpos_command.proofs.Readings.{half_at_node, leads_spelling, no_prefix, not_empty, not_viable_at_dead, one_command, spelling_at_leaf, viable_where_live}
-use Rattle.escpos_command.proofs.Combinators.{at_row}
-use Rattle.escpos_command.proofs.SettingFacts.{is_table}
-use Rattle.escpos_command.proofs.SettingRows.{own_kind, some_value}
-use Rattle.escpos_command.proofs.TableTree.{form, setting, spelled_setting}
+use Rattle.escpos_command.proofs.SettingRows.{some_value}
 use Rattle.escpos_command.proofs.Walks.{IsLive}
 
 abbrev pub RestIn : (Command → Bool) → List ℕ → Type 0

@@ -1,6 +1,6 @@
 -- The table of the commands that only set something. What is said of a table is said of any list of rows; `table` is the one
 -- of the module `setting`.
-use Rattle.std.specs.Prelude.{ℕ, ◌==◌, ◌&&◌, Bool, true, false, List, [], ◌∷◌, Option, None, Some, option_to_list, get_or}
+use Rattle.std.specs.Prelude.{ℕ, ◌==◌, ◌&&◌, Bool, true, false, List, ◌∷◌, Option, None, Some, option_to_list, get_or}
 use Rattle.std.specs.Option.{is_some, unwrap_or}
 use denote.Enum.Declared.{tag_of}
 use Rattle.escpos_command.specs.Parameters.{is_byte, is_one_of_two, is_one_of_three, is_one_of_four, is_character_set, is_size, is_bar_height, is_bar_width}

@@ -1,5 +1,5 @@
 -- What lines are on paper.
-use Rattle.std.specs.Prelude.{ℕ, ◌≡◌, ◌≢◌, ◌<◌, ◌+◌, ◌*◌, List, [], ◌∷◌, ◌++◌, All, length, map, flat_map, Option, Some, None, Ok}
+use Rattle.std.specs.Prelude.{ℕ, ◌≡◌, ◌≢◌, ◌<◌, ◌+◌, List, [], ◌∷◌, ◌++◌, All, length, map, flat_map, Option, Some, None, Ok}
 use Rattle.std.specs.List.{AllByRecursion}
 use Rattle.escpos_command.specs.declared.command.Command.{Command}
 use Rattle.escpos_paper.specs.declared.cell.Cell.{Cell}

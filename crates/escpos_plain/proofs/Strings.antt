@@ -1,5 +1,5 @@
 -- The rows of a receipt show its strings.
-use Rattle.std.proofs.Common.{◌≡◌, ◌≢◌, ℕ, List, [], ◌∷◌, ◌++◌, Option, None, Some, map, refl, sym, ◌∙◌, ap, subst, append_assoc, append-nil, Bool, true, false}
+use Rattle.std.proofs.Common.{◌≡◌, ◌≢◌, ℕ, List, [], ◌∷◌, ◌++◌, Option, None, Some, map, refl, sym, ◌∙◌, ap, subst, append_assoc, append-nil, true, false}
 use Rattle.std.specs.Prelude.{chars, flat_map, filter_map, All}
 use Rattle.std.specs.List.{cons_option}
 use Rattle.std.proofs.lemmas.List.{map-append}
@@ -8,9 +8,7 @@ use Rattle.std.proofs.Math.Seq.{append_snoc}
 use Rattle.unicode_normalization.specs.Forms.{nfc}
 use Rattle.serde_json.specs.Data.{Data}
 use Rattle.escpos_command.specs.declared.command.Command.{Command}
-use Rattle.escpos_command.specs.declared.command.Command.TheVariants.{Init}
 use Rattle.escpos_command.specs.Text.{characters, text}
-use Rattle.escpos_paper.specs.declared.cell.Cell.{Cell}
 use Rattle.escpos_paper.specs.Cells.{cell}
 use Rattle.escpos_paper.specs.Rows.{line}
 use Rattle.escpos_paper.specs.Printed.{printed}

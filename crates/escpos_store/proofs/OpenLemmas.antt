@@ -20,7 +20,7 @@ use Rattle.sqlite_catalog.proofs.ReadLemmas.{lists_once}
 use Rattle.sqlite_trees.specs.Tree.{Trees}
 use Rattle.sqlite.specs.Effect.{IsDatabase}
 use Rattle.sqlite.specs.Held.{AreDatabases}
-use Rattle.sqlite_store.specs.FileStore.{recovers, view, reading, schema_in}
+use Rattle.sqlite_store.specs.FileStore.{recovers, view}
 use Rattle.sqlite.specs.Files.{HoldsDatabase, FailsToOpenFiles, faults_of, faults_left}
 use Rattle.sqlite_disk.specs.Disk.{MoreFaults}
 use Rattle.sqlite.specs.declared.file.Leftover.{Leftover}

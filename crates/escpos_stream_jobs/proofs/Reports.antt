@@ -1,6 +1,6 @@
 -- What a job prints for a byte stream, from how far the stream was read.
-use Rattle.std.proofs.Common.{◌≡◌, ◌≢◌, ℕ, refl, inl, inr, List, [], ◌∷◌, ◌++◌, length, take, drop, append_assoc, append-nil, sym, ◌∙◌, ap, subst, arith, Result, Ok, Err, OnOk, false}
-use Rattle.std.specs.Prelude.{is_err, IsTrue, IsErr, IfSome, Option, Some, None, codes, ◌<◌, ◌≤◌}
+use Rattle.std.proofs.Common.{◌≡◌, ◌≢◌, ℕ, refl, inl, inr, List, [], ◌∷◌, ◌++◌, length, take, drop, append_assoc, append-nil, sym, ◌∙◌, ap, subst, arith, Ok}
+use Rattle.std.specs.Prelude.{IsTrue, IsErr, IfSome, Option, Some, None, codes, ◌<◌, ◌≤◌}
 use Rattle.std.specs.List.{AllByRecursion}
 use Rattle.std.proofs.lemmas.Grind.{flat_map-append}
 use Rattle.std.proofs.lemmas.List.{nil_from_length, take-append-le, take-append-drop, take_all}

@@ -36,7 +36,6 @@ use Rattle.escpos_till_model.specs.Carried.{AreApart, Carried, HasOwnMarks, link
 use Rattle.escpos_till_model.specs.Known.{Holds, IsMachineIn, IsToKeep, IsWorld}
 use Rattle.escpos_till_model.specs.Kept.{Hand}
 use Rattle.escpos_till_model.specs.World.{Learns, Breaks, Moves, Puts, Stores, StoresBoth, World}
-use Rattle.escpos_till_model.proofs.Worlds.{whatever}
 
 -- ## Marks
 

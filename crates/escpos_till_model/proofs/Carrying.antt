@@ -31,7 +31,7 @@ use Rattle.escpos_till.specs.Delivers.{fresh, marks_taken}
 use Rattle.escpos_till.specs.Book.{IsBookOf}
 use Rattle.escpos_till.specs.Entries.{MayFollow, next_free}
 use Rattle.escpos_till.specs.Learning.{FailsToLearn, LearnsAll}
-use Rattle.escpos_till.specs.Machine.{Came, Cancels, Delivers, Ended, Follows, GoesOn, HearsOne, Kept, MachineView, Queues, Raises, SameEntries, SendsNext, Submits, Turns as Turned, after_news, connected, hung_up, not_connected, put, told, with_pause}
+use Rattle.escpos_till.specs.Machine.{Came, Cancels, Delivers, Ended, Follows, GoesOn, HearsOne, Kept, MachineView, Queues, Raises, SameEntries, SendsNext, Submits, Turns as Turned, after_news, connected, hung_up, not_connected, told, with_pause}
 use Rattle.escpos_till.proofs.EntryLemmas.{next_after_tried}
 use Rattle.escpos_till_model.specs.declared.event.Happening.{Happening}
 use Rattle.escpos_till_model.specs.declared.event.Happening.TheVariants as event

@@ -1,5 +1,5 @@
 -- Why a driver's run is a run of the world: one deed after another, to where the machine stands, or where the till is switched off.
-use Rattle.std.proofs.Common.{◌≡◌, ◌≢◌, inl, inr, Option, Some, None, List, [], ◌∷◌, ◌++◌, refl, sym, ◌∙◌, ap, subst}
+use Rattle.std.proofs.Common.{◌≡◌, ◌≢◌, inl, inr, Some, None, List, [], ◌∷◌, ◌++◌, refl, sym, ◌∙◌, ap, subst}
 use Rattle.escpos_host.specs.Machine.{HostView, Down, IsSound}
 use Rattle.escpos_link.specs.Wire.{WireView, given_up, with_link}
 use Rattle.escpos_till.specs.declared.stage.Stage.{Stage}

@@ -19,7 +19,6 @@ use Rattle.escpos_link.proofs.AtTheEnd.{heard_on}
 use Rattle.escpos_host.proofs.Earlier.{earlier_hears, ends_shifted, last_shifted}
 use Rattle.escpos_host.proofs.Recording.{keeps, none_has, told}
 use Rattle.escpos_link.proofs.Promising.{receipts_join}
-use Rattle.escpos_till.specs.Entries.{recorded}
 use Rattle.escpos_till_model.proofs.HeardLemmas.{record_heard}
 use Rattle.escpos_till_model.specs.Late.{HasJustBegun}
 use Rattle.escpos_till_model.proofs.LinesKept.{LineLaws, Right}

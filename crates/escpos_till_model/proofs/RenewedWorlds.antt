@@ -1,5 +1,5 @@
 -- A ledger that goes on from an older one, where that ledger's till is off: the line goes on as if its host had recorded nothing.
-use Rattle.std.proofs.Common.{ℕ, ◌≡◌, ◌≤◌, ◌⊎◌, inl, inr, None, Some, Option, List, [], ◌∷◌, ◌++◌, refl, sym, ◌∙◌, ap, subst, append_assoc, arith}
+use Rattle.std.proofs.Common.{ℕ, ◌≡◌, ◌≤◌, inl, inr, None, Some, Option, List, [], ◌∷◌, ◌++◌, refl, sym, ◌∙◌, ap, subst, append_assoc, arith}
 use Rattle.std.specs.List.{AllZip}
 use Rattle.escpos_command.specs.declared.command.Command.{Command}
 use Rattle.escpos_paper.specs.declared.item.Item.{Item}
@@ -7,28 +7,28 @@ use Rattle.escpos_paper.specs.Page.{Sheet}
 use Rattle.escpos_paper.specs.Printed.{printed}
 use Rattle.escpos_host.specs.Machine.{HostView, InFlight, closed_by}
 use Rattle.escpos_link.specs.Line.{IsLine, LineView}
-use Rattle.escpos_link.specs.Promised.{Fulfils, GivenUpFor, IsIn, KeepsOn, LiveFor, NewestFor, Promised, PromisedBy, PromisedIn, ServedFor, StandsNext}
+use Rattle.escpos_link.specs.Promised.{GivenUpFor, LiveFor, NewestFor, Promised, ServedFor, StandsNext}
 use Rattle.escpos_link.specs.Promising.{Promising}
 use Rattle.escpos_link.specs.Resumed.{resumed_from}
 use Rattle.escpos_link.specs.Stands.{Stands}
 use Rattle.escpos_link.specs.Trusted.{IsTrusted, Trusting}
-use Rattle.escpos_link.specs.Wire.{WireView, given_up, wire_of}
+use Rattle.escpos_link.specs.Wire.{given_up, wire_of}
 use Rattle.escpos_link.proofs.Keeping.{off_link_kept}
 use Rattle.escpos_till.specs.declared.entry.Content.{Content}
 use Rattle.escpos_till.specs.declared.entry.Entry.{Entry}
 use Rattle.escpos_till.specs.declared.note.TillNote.{TillNote}
 use Rattle.escpos_till.specs.declared.note.TillNote.TheVariants as note
-use Rattle.escpos_till.specs.Entries.{Taken, Waits, cancel_place_of, heard, is_open, last_number, next_free, place_of, recorded, taken, waiting}
+use Rattle.escpos_till.specs.Entries.{Taken, Waits, cancel_place_of, heard, is_open, next_free, place_of, recorded, taken, waiting}
 use Rattle.escpos_till.specs.Renewing.{Renews}
-use Rattle.escpos_till.specs.Tries.{HasTry, tries}
+use Rattle.escpos_till.specs.Tries.{tries}
 use Rattle.escpos_till_model.specs.Late.{IsHeardBy, LateAnswers}
-use Rattle.escpos_till_model.specs.Receipts.{Among, AreReceipts, IsReceiptOf, IsTaken}
+use Rattle.escpos_till_model.specs.Receipts.{Among, IsReceiptOf, IsTaken}
 use Rattle.escpos_till_model.specs.World.{Begins, IsSo, World}
 use Rattle.escpos_till_model.proofs.EntryFacts.{among_filtered, filter_keeps}
 use Rattle.escpos_till_model.proofs.HeardLemmas.{MayKnow, may_know}
 use Rattle.escpos_till_model.proofs.Keeping.{anew}
 use Rattle.escpos_till_model.proofs.LinesKept.{none_given_up}
-use Rattle.std.specs.Prelude.{Bool, true, ◌&&◌, is_none}
+use Rattle.std.specs.Prelude.{true, ◌&&◌, is_none}
 
 -- ## A promise for fewer records
 

@@ -1,10 +1,9 @@
 -- What holds of every world holds after what a store does, after bytes are put, and after what happens without the machine.
-use Rattle.std.proofs.Common.{ℕ, suc, ◌≡◌, ◌≢◌, ◌+◌, ◌-◌, ◌<◌, ◌≤◌, ◌-◌, ◌⊎◌, inl, inr, Option, Some, None, List, [], ◌∷◌, ◌++◌, length, take, refl, sym, ◌∙◌, ap, subst, append-nil, append_assoc, length-append, arith}
+use Rattle.std.proofs.Common.{ℕ, suc, ◌≡◌, ◌≢◌, ◌+◌, ◌-◌, ◌≤◌, ◌-◌, inl, inr, Option, Some, None, List, [], ◌∷◌, ◌++◌, length, take, refl, sym, ◌∙◌, ap, subst, append-nil, append_assoc, arith}
 use Rattle.std.specs.Prelude.{true, false}
 use Rattle.std.proofs.Math.Nat.{min-le_right}
 use Rattle.escpos_host.specs.declared.send.SendFault.{SendFault}
 use Rattle.escpos_command.specs.declared.command.Command.{Command}
-use Rattle.escpos_command.specs.Digits.{mark_count}
 use Rattle.escpos_host.specs.Counted.{id_of}
 use Rattle.escpos_host.specs.Earlier.{with_earlier}
 use Rattle.escpos_host.specs.Machine.{HostView, InFlight, Phase, Down, Opening, Open, IsSound, closed_by, gone_down, in_flight, most_in_flight, receipts_of, taken_out, unanswered}
@@ -24,7 +23,7 @@ use Rattle.escpos_till.specs.declared.entry.Content.{Content}
 use Rattle.escpos_till.specs.declared.entry.Entry.{Entry}
 use Rattle.escpos_till.specs.declared.stage.Stage.TheVariants as stage
 use Rattle.escpos_till.specs.Book.{IsBookOf}
-use Rattle.escpos_till.specs.Entries.{IsLedger, MayFollow, cancelled, earlier, heard, last_number, next_free, record_of, recorded, states, times_tried}
+use Rattle.escpos_till.specs.Entries.{IsLedger, MayFollow, cancelled, earlier, heard, next_free, record_of, recorded}
 use Rattle.escpos_till.specs.declared.entry.Entry.TheVariants as entry
 use Rattle.escpos_till.specs.declared.stage.Due.{Due}
 use Rattle.escpos_till.specs.declared.stage.Talk.{Talk}
@@ -34,9 +33,9 @@ use Rattle.escpos_till.specs.declared.note.TillNote.TheVariants as note_kind
 use Rattle.escpos_till.specs.declared.store.StoreFault.{StoreFault}
 use Rattle.escpos_till.specs.declared.stage.Then.TheVariants as then
 use Rattle.escpos_till.specs.Delivers.{fresh, marks_taken}
-use Rattle.escpos_till.specs.Tries.{HasTry, tries}
+use Rattle.escpos_till.specs.Tries.{tries}
 use Rattle.escpos_till.specs.Machine.{Drops, Ended, MachineView, Suits, Unsure, entry_with, lost, put}
-use Rattle.escpos_till.proofs.EntryLemmas.{last-states, last_grows}
+use Rattle.escpos_till.proofs.EntryLemmas.{last_grows}
 use Rattle.escpos_till_model.proofs.Accounts.{times_stay}
 use Rattle.escpos_till_model.proofs.EntryFacts.{among_more, cancelled_append, recorded_append, zip_length}
 use Rattle.escpos_till_model.proofs.GoesOn.{GoesOn, taken_on}

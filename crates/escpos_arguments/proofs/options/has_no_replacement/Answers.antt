@@ -1,5 +1,5 @@
 -- The text is what the rows have.
-use Rattle.std.proofs.Common.{◌≡◌, ◌∙◌, refl, sym, codes}
+use Rattle.std.proofs.Common.{◌∙◌, refl, sym, codes}
 use Rattle.clap.specs.Words.{found_of}
 use Rattle.clap.proofs.WalkLemmas.{first_value-rows}
 use Rattle.escpos_arguments.proofs.options.has_no_replacement.Goals as goal

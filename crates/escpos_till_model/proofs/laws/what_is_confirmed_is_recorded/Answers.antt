@@ -1,7 +1,6 @@
 -- What is told while a call goes on, in the world.
-use Rattle.std.proofs.Common.{[], ◌∷◌, ◌++◌, ap, sym, ◌∙◌, append_assoc}
-use Rattle.escpos_till.specs.Driver.{Confirms, Deed, Tells}
-use Rattle.escpos_till.specs.declared.note.TillNote.{TillNote}
+use Rattle.std.proofs.Common.{[], ◌∷◌, ◌++◌, ap, ◌∙◌, append_assoc}
+use Rattle.escpos_till.specs.Driver.{Confirms, Tells}
 use Rattle.escpos_till_model.specs.Around.{around}
 use Rattle.escpos_till_model.specs.Receipts.{Among}
 use Rattle.escpos_till_model.specs.World.{World, running}

@@ -7,7 +7,6 @@ use Rattle.escpos_paper.specs.declared.cell.Cell.{Cell}
 use Rattle.escpos_paper.specs.declared.style.Style.{Style}
 use Rattle.escpos_paper.specs.Cells.{cell, dots, style_dots}
 use Rattle.escpos_paper.specs.Rows.{fits}
-use Rattle.escpos_paper.proofs.Fits.{fit_means}
 use Rattle.escpos_paper.proofs.TextRuns.{dots_with_text, text_narrow, wide_text}
 use Rattle.escpos_paper.proofs.print_buffer.PrintBuffer.extend.Goals as goal
 
