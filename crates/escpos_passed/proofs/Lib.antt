@@ -1,0 +1,9 @@
+pub mod Lengths
+pub mod Strays
+pub mod Rows
+pub mod TokenLaws
+pub mod Decided
+pub mod Outcomes
+pub mod LengthLoops
+pub mod Turns
+pub mod With
