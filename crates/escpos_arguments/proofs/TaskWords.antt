@@ -336,17 +336,17 @@ is_off e = let bad : codes "false" ≡ codes "true" = cc in lengths (ap length b
     lengths : length (codes "false") ≡ length (codes "true") → ⊥
     lengths e = omega (arith, e)
 
-check_alone : AskedAlone (codes "check") (Check Hexadecimal)
+check_alone : AskedAlone (codes "check") (Check Hexadecimal false)
 unfolding clap_on_literals
-check_alone = record { passes = refl; asks = (refl, is_off); alone = λ nothing. refl; in_range = tt }
+check_alone = record { passes = refl; asks = (refl, is_off, is_off); alone = λ nothing. refl; in_range = tt }
 
-render_alone : AskedAlone (codes "render") (Render Hexadecimal USUAL_LINE_DOTS)
+render_alone : AskedAlone (codes "render") (Render Hexadecimal false USUAL_LINE_DOTS)
 unfolding clap_on_literals
-render_alone = record { passes = refl; asks = (refl, is_off, refl, is_off); alone = λ nothing. refl; in_range = refl }
+render_alone = record { passes = refl; asks = (refl, is_off, is_off, refl, is_off); alone = λ nothing. refl; in_range = refl }
 
-draw_alone : AskedAlone (codes "draw") (Draw Hexadecimal USUAL_LINE_DOTS)
+draw_alone : AskedAlone (codes "draw") (Draw Hexadecimal false USUAL_LINE_DOTS)
 unfolding clap_on_literals
-draw_alone = record { passes = refl; asks = (refl, is_off, refl); alone = λ nothing. refl; in_range = refl }
+draw_alone = record { passes = refl; asks = (refl, is_off, is_off, refl); alone = λ nothing. refl; in_range = refl }
 
 encode_alone : AskedAlone (codes "encode") (Encode Hexadecimal (record { width = USUAL_LINE_DOTS; replacement = None }))
 unfolding clap_on_literals

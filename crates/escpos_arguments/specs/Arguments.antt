@@ -40,6 +40,15 @@ HasRaw rows = HasFlag (codes "raw") rows
 abbrev pub HasText : List Row → Type 0
 HasText rows = HasFlag (codes "text") rows
 
+-- the flag `--pass` is among the values
+abbrev pub HasPass : List Row → Type 0
+HasPass rows = HasFlag (codes "pass") rows
+
+-- whether commands are passed over: with the flag `--pass`
+abbrev pub GivesPass : List Row → Bool → Type 0
+GivesPass rows true = HasPass rows
+GivesPass rows false = ¬ HasPass rows
+
 -- how a stream is given: as the bytes themselves with the flag `--raw`, otherwise as hexadecimal digits
 abbrev pub GivesForm : List Row → Form → Type 0
 GivesForm rows Raw = HasRaw rows
@@ -86,10 +95,10 @@ IsLinkCount links = (1 ≤ links) × (links ≤ MOST_LINKS)
 
 -- this name, with the values that were given after it, asks for the task
 abbrev pub AsksBy : Text → List Row → Task → Type 0
-AsksBy name rows (Check form) = (name ≡ codes "check") × GivesForm rows form
-AsksBy name rows (Render form width) = (name ≡ codes "render") × GivesForm rows form × GivesWidth rows width × (¬ HasText rows)
-AsksBy name rows (RenderText form width) = (name ≡ codes "render") × GivesForm rows form × GivesWidth rows width × HasText rows
-AsksBy name rows (Draw form width) = (name ≡ codes "draw") × GivesForm rows form × GivesWidth rows width
+AsksBy name rows (Check form pass) = (name ≡ codes "check") × GivesForm rows form × GivesPass rows pass
+AsksBy name rows (Render form pass width) = (name ≡ codes "render") × GivesForm rows form × GivesPass rows pass × GivesWidth rows width × (¬ HasText rows)
+AsksBy name rows (RenderText form pass width) = (name ≡ codes "render") × GivesForm rows form × GivesPass rows pass × GivesWidth rows width × HasText rows
+AsksBy name rows (Draw form pass width) = (name ≡ codes "draw") × GivesForm rows form × GivesPass rows pass × GivesWidth rows width
 AsksBy name rows (Encode form options) = (name ≡ codes "encode") × GivesForm rows form × GivesOptions rows options
 AsksBy name rows (Image width threshold) = (name ≡ codes "image") × GivesWidth rows width × IsNumberIn (one_of (codes "threshold") rows) threshold
 AsksBy name rows Play = name ≡ codes "play"
@@ -128,9 +137,9 @@ IsOptions options = IsTrue (is_line_width options.width) × IfSome options.repla
 
 -- the numbers of the task are in range
 abbrev pub InRange : Task → Type 0
-InRange (Render form width) = IsTrue (is_line_width width)
-InRange (RenderText form width) = IsTrue (is_line_width width)
-InRange (Draw form width) = IsTrue (is_line_width width)
+InRange (Render form pass width) = IsTrue (is_line_width width)
+InRange (RenderText form pass width) = IsTrue (is_line_width width)
+InRange (Draw form pass width) = IsTrue (is_line_width width)
 InRange (Encode form options) = IsOptions options
 InRange (Image width threshold) = IsTrue (is_line_width width) × IfSome threshold IsThreshold
 InRange (Emulate address links condition width file) = IfSome links IsLinkCount × IsTrue (is_line_width width) × IfSome file (λ path. length path ≤ MOST_TEXT)
@@ -145,14 +154,14 @@ InRange _ = ⊤
 abbrev pub bare_tasks : List (Text × Task)
 bare_tasks =
     let usual : ReceiptOptions = record { width = USUAL_LINE_DOTS; replacement = None } in
-    (codes "check", Check Hexadecimal) ∷ (codes "render", Render Hexadecimal USUAL_LINE_DOTS) ∷ (codes "draw", Draw Hexadecimal USUAL_LINE_DOTS)
+    (codes "check", Check Hexadecimal false) ∷ (codes "render", Render Hexadecimal false USUAL_LINE_DOTS) ∷ (codes "draw", Draw Hexadecimal false USUAL_LINE_DOTS)
     ∷ (codes "encode", Encode Hexadecimal usual) ∷ (codes "play", Play) ∷ (codes "loop", Loop USUAL_LINE_DOTS) ∷ []
 
 -- none of the settings of such a task is among the values
 abbrev pub SetsNothing : List Row → Task → Type 0
-SetsNothing rows (Check form) = ¬ HasRaw rows
-SetsNothing rows (Render form width) = (¬ HasRaw rows) × HasNoWidth rows
-SetsNothing rows (Draw form width) = (¬ HasRaw rows) × HasNoWidth rows
+SetsNothing rows (Check form pass) = (¬ HasRaw rows) × (¬ HasPass rows)
+SetsNothing rows (Render form pass width) = (¬ HasRaw rows) × (¬ HasPass rows) × HasNoWidth rows
+SetsNothing rows (Draw form pass width) = (¬ HasRaw rows) × (¬ HasPass rows) × HasNoWidth rows
 SetsNothing rows (Encode form options) = (¬ HasRaw rows) × HasNoOptions rows
 SetsNothing rows Play = ⊤
 SetsNothing rows (Loop width) = HasNoWidth rows
@@ -185,8 +194,8 @@ abbrev pub flag_rule : Text → Rule
 flag_rule name = record (new_rule name) { long = Some name; action = Some SetTrue }
 
 -- what may follow `check`
-abbrev pub raw_words : Text → Shape
-raw_words name = (with_rule (new_app name) (flag_rule (codes "raw"))).top
+abbrev pub check_words : Shape
+check_words = (with_rule (with_rule (new_app (codes "check")) (flag_rule (codes "raw"))) (flag_rule (codes "pass"))).top
 
 -- the width of a line
 abbrev pub width_rule : Rule
@@ -202,15 +211,15 @@ encode_words = (with_rule (with_rule (with_rule (new_app (codes "encode")) (flag
 
 -- what may follow `render`
 abbrev pub render_words : Shape
-render_words = (with_rule (with_rule (with_rule (new_app (codes "render")) (flag_rule (codes "raw"))) width_rule) (flag_rule (codes "text"))).top
+render_words = (with_rule (with_rule (with_rule (with_rule (new_app (codes "render")) (flag_rule (codes "raw"))) (flag_rule (codes "pass"))) width_rule) (flag_rule (codes "text"))).top
 
 -- what may follow `image`
 abbrev pub image_words : Shape
 image_words = (with_rule (with_rule (new_app (codes "image")) width_rule) (option_rule (codes "threshold") false)).top
 
 -- what may follow `draw`
-abbrev pub paper_words : Text → Shape
-paper_words name = (with_rule (with_rule (new_app name) (flag_rule (codes "raw"))) width_rule).top
+abbrev pub draw_words : Shape
+draw_words = (with_rule (with_rule (with_rule (new_app (codes "draw")) (flag_rule (codes "raw"))) (flag_rule (codes "pass"))) width_rule).top
 
 -- what may follow `loop`
 abbrev pub loop_words : Shape
@@ -239,7 +248,7 @@ stream_words =
       subcommand_required = true;
     }) (new_app (codes "escpos_cli")) in
     with_subcommand (with_subcommand (with_subcommand (with_subcommand (with_subcommand (with_subcommand top
-    (raw_words (codes "check"))) render_words) (paper_words (codes "draw"))) encode_words) image_words) (new_shape (codes "play"))
+    check_words) render_words) draw_words) encode_words) image_words) (new_shape (codes "play"))
 
 -- the name of a task with its values, or `help`, and nothing more
 abbrev pub command_words : App

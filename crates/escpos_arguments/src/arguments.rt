@@ -5,7 +5,7 @@ ghost use Rattle.clap.specs.Words.{HasKind, IsAmong, app_of, fault_of, first_of,
 ghost use Rattle.escpos_addresses.specs.Address.{IsAddress};
 ghost use Rattle.escpos_addresses.specs.declared.address.Address.{Address};
 ghost use Rattle.escpos_jobs.specs.declared.task.Task.{Task};
-ghost use Rattle.escpos_arguments.specs.Arguments.{Asks, AsksBy, HasFlag, InRange, IsNumberOr, IsWait, SetsNothing, StandsAlone, address_rule, asking_words, bare_tasks, command_words, emulate_words, encode_words, flag_rule, help_words, image_words, loop_words, option_rule, paper_words, raw_words, render_words, send_words, stream_words};
+ghost use Rattle.escpos_arguments.specs.Arguments.{Asks, AsksBy, HasFlag, InRange, IsNumberOr, IsWait, SetsNothing, StandsAlone, address_rule, asking_words, bare_tasks, check_words, command_words, draw_words, emulate_words, encode_words, flag_rule, help_words, image_words, loop_words, option_rule, render_words, send_words, stream_words};
 ghost use Rattle.escpos_arguments.specs.ClapAnswers.{IsNumber, IsNumberIn, no_task_of};
 
 use crate::emulate::emulate_asked;
@@ -155,9 +155,9 @@ fn sets_nothing(given: &ArgMatches, task: &Task) -> bool
     ensures { IsTrue result ↔ SetsNothing (rows_of (found_of given.now)) task.now }
 {
     match task {
-        Task::Check { .. } => !has_flag(given, "raw"),
+        Task::Check { .. } => !has_flag(given, "raw") && !has_flag(given, "pass"),
         Task::Render { .. } | Task::Draw { .. } => {
-            !has_flag(given, "raw") && has_no_width(given)
+            !has_flag(given, "raw") && !has_flag(given, "pass") && has_no_width(given)
         }
         Task::Encode { .. } => !has_flag(given, "raw") && has_no_options(given),
         Task::Play => true,
@@ -325,9 +325,9 @@ fn command_of_all<'a>(alloc: Global) -> Result<Command<'a>, AllocError>
 fn command_of_streams<'a>(alloc: Global) -> Result<Command<'a>, AllocError>
     ensures shape { IfOk result (λ command. app_of command ≡ stream_words) }
 {
-    let check = raw_command(alloc, "check")?;
+    let check = check_command(alloc)?;
     let render = render_command(alloc)?;
-    let draw = paper_command(alloc, "draw")?;
+    let draw = draw_command(alloc)?;
     let encode = encode_command(alloc)?;
     let image = image_command(alloc)?;
     let command = Command::new(alloc, "escpos_cli")
@@ -343,11 +343,13 @@ fn command_of_streams<'a>(alloc: Global) -> Result<Command<'a>, AllocError>
     Ok(command)
 }
 
-// A subcommand that may be followed by `--raw`.
-fn raw_command<'a>(alloc: Global, name: &'a str) -> Result<Command<'a>, AllocError>
-    ensures shape { IfOk result (λ command. (app_of command).top ≡ raw_words name.entry.now) }
+// The subcommand `check` with its arguments.
+fn check_command<'a>(alloc: Global) -> Result<Command<'a>, AllocError>
+    ensures shape { IfOk result (λ command. (app_of command).top ≡ check_words) }
 {
-    let command = Command::new(alloc, name).arg(flag(alloc, "raw"))?;
+    let command = Command::new(alloc, "check")
+        .arg(flag(alloc, "raw"))?
+        .arg(flag(alloc, "pass"))?;
     Ok(command)
 }
 
@@ -378,17 +380,19 @@ fn render_command<'a>(alloc: Global) -> Result<Command<'a>, AllocError>
 {
     let command = Command::new(alloc, "render")
         .arg(flag(alloc, "raw"))?
+        .arg(flag(alloc, "pass"))?
         .arg(option(alloc, "width", false))?
         .arg(flag(alloc, "text"))?;
     Ok(command)
 }
 
-// A subcommand that may be followed by `--raw` and `--width`.
-fn paper_command<'a>(alloc: Global, name: &'a str) -> Result<Command<'a>, AllocError>
-    ensures shape { IfOk result (λ command. (app_of command).top ≡ paper_words name.entry.now) }
+// The subcommand `draw` with its arguments.
+fn draw_command<'a>(alloc: Global) -> Result<Command<'a>, AllocError>
+    ensures shape { IfOk result (λ command. (app_of command).top ≡ draw_words) }
 {
-    let command = Command::new(alloc, name)
+    let command = Command::new(alloc, "draw")
         .arg(flag(alloc, "raw"))?
+        .arg(flag(alloc, "pass"))?
         .arg(option(alloc, "width", false))?;
     Ok(command)
 }

@@ -78,9 +78,9 @@ _escpos_cli() {
             --help --version'
     else
         case ${COMP_WORDS[1]} in
-        check) given='--raw --help' ;;
-        render) given='--raw --width --text --help' ;;
-        draw) given='--raw --width --help' ;;
+        check) given='--raw --pass --help' ;;
+        render) given='--raw --pass --width --text --help' ;;
+        draw) given='--raw --pass --width --help' ;;
         encode) given='--raw --width --replace --help' ;;
         image) given='--width --threshold --help' ;;
         play) given='--help' ;;
@@ -127,9 +127,9 @@ if (( CURRENT == 2 )); then
     return
 fi
 case $words[2] in
-check) compadd -- --raw --help ;;
-render) compadd -- --raw --width --text --help ;;
-draw) compadd -- --raw --width --help ;;
+check) compadd -- --raw --pass --help ;;
+render) compadd -- --raw --pass --width --text --help ;;
+draw) compadd -- --raw --pass --width --help ;;
 encode) compadd -- --raw --width --replace --help ;;
 image) compadd -- --width --threshold --help ;;
 play) compadd -- --help ;;
@@ -166,10 +166,13 @@ complete -c escpos_cli -f -n __fish_use_subcommand -a ledger -d 'List the receip
 complete -c escpos_cli -f -n __fish_use_subcommand -a completions -d 'Print a script for a shell'
 complete -c escpos_cli -f -n __fish_use_subcommand -a help -d 'Print the help'
 complete -c escpos_cli -n '__fish_seen_subcommand_from check' -l raw
+complete -c escpos_cli -n '__fish_seen_subcommand_from check' -l pass
 complete -c escpos_cli -n '__fish_seen_subcommand_from render' -l raw
+complete -c escpos_cli -n '__fish_seen_subcommand_from render' -l pass
 complete -c escpos_cli -n '__fish_seen_subcommand_from render' -l width -x
 complete -c escpos_cli -n '__fish_seen_subcommand_from render' -l text
 complete -c escpos_cli -n '__fish_seen_subcommand_from draw' -l raw
+complete -c escpos_cli -n '__fish_seen_subcommand_from draw' -l pass
 complete -c escpos_cli -n '__fish_seen_subcommand_from draw' -l width -x
 complete -c escpos_cli -n '__fish_seen_subcommand_from encode' -l raw
 complete -c escpos_cli -n '__fish_seen_subcommand_from encode' -l width -x

@@ -1,10 +1,10 @@
 //! The form of a stream among the arguments, and the task of `check`, which may be given it alone.
 
-ghost use Rattle.std.specs.Prelude.{◌≡◌, codes};
+ghost use Rattle.std.specs.Prelude.{◌≡◌, Bool, codes};
 ghost use Rattle.clap.specs.Words.{found_of, rows_of};
 ghost use Rattle.escpos_job_parts.specs.declared.form.Form.{Form as StreamForm};
 ghost use Rattle.escpos_jobs.specs.declared.task.Task.{Task};
-ghost use Rattle.escpos_arguments.specs.Arguments.{AsksBy, GivesForm};
+ghost use Rattle.escpos_arguments.specs.Arguments.{AsksBy, GivesForm, GivesPass};
 
 use crate::arguments::has_flag;
 use clap::ArgMatches;
@@ -18,7 +18,16 @@ pub(crate) fn check_asked(given: &ArgMatches) -> Task
 {
     Task::Check {
         form: form_given(given),
+        pass: pass_given(given),
     }
+}
+
+// Whether commands are passed over: with `--pass`.
+pub(crate) fn pass_given(given: &ArgMatches) -> bool
+    ensures read { GivesPass (rows_of (found_of given.now)) result }
+    ensures taken { (pass : Bool) → GivesPass (rows_of (found_of given.now)) pass → result ≡ pass }
+{
+    has_flag(given, "pass")
 }
 
 // The form of the stream: the bytes themselves with `--raw`, otherwise hexadecimal.

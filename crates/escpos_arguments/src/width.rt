@@ -9,7 +9,7 @@ ghost use Rattle.escpos_arguments.specs.Arguments.{AsksBy, GivesWidth, HasNoWidt
 ghost use Rattle.escpos_arguments.specs.ClapAnswers.{IsNumberIn};
 
 use crate::arguments::{has_flag, number_given};
-use crate::form::form_given;
+use crate::form::{form_given, pass_given};
 use clap::ArgMatches;
 use escpos_command::LineWidth;
 use escpos_jobs::task::{NoTask, Task};
@@ -22,11 +22,12 @@ pub(crate) fn render_asked(given: &ArgMatches) -> Result<Task, NoTask>
     ensures usage { IfErr result (λ why. why ≡ NoTask.Usage) }
 {
     let form = form_given(given);
+    let pass = pass_given(given);
     let width = width_or_usual(given)?;
     if has_flag(given, "text") {
-        Ok(Task::RenderText { form, width })
+        Ok(Task::RenderText { form, pass, width })
     } else {
-        Ok(Task::Render { form, width })
+        Ok(Task::Render { form, pass, width })
     }
 }
 
@@ -38,8 +39,9 @@ pub(crate) fn draw_asked(given: &ArgMatches) -> Result<Task, NoTask>
     ensures usage { IfErr result (λ why. why ≡ NoTask.Usage) }
 {
     let form = form_given(given);
+    let pass = pass_given(given);
     let width = width_or_usual(given)?;
-    Ok(Task::Draw { form, width })
+    Ok(Task::Draw { form, pass, width })
 }
 
 // The task of `loop` with the arguments that follow it.

@@ -88,10 +88,11 @@ fn asks_for_command<'a>(
 fn names(rt: &impl Abort, alloc: Global, form: Form, given: &[&str]) {
     let width = LineWidth::usual();
     let options = ReceiptOptions::usual();
+    let pass = false;
     let rows = [
-        ("check", Task::Check { form }),
-        ("render", Task::Render { form, width }),
-        ("draw", Task::Draw { form, width }),
+        ("check", Task::Check { form, pass }),
+        ("render", Task::Render { form, pass, width }),
+        ("draw", Task::Draw { form, pass, width }),
         ("encode", Task::Encode { form, options }),
     ];
     for (name, task) in rows {

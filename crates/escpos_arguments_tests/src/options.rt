@@ -28,7 +28,16 @@ fn widths_of_streams(rt: HostRuntime) {
         (&["render", "--width", "384", "--raw"], Form::Raw),
     ];
     for (words, form) in renders {
-        asks_for(&rt, rt.alloc(), words, Ok(Task::Render { form, width }));
+        asks_for(
+            &rt,
+            rt.alloc(),
+            words,
+            Ok(Task::Render {
+                form,
+                pass: false,
+                width,
+            }),
+        );
     }
     let draws: [(&[&str], Form); 3] = [
         (&["draw", "--width", "384"], Form::Hexadecimal),
@@ -36,10 +45,75 @@ fn widths_of_streams(rt: HostRuntime) {
         (&["draw", "--raw", "--width=384"], Form::Raw),
     ];
     for (words, form) in draws {
-        asks_for(&rt, rt.alloc(), words, Ok(Task::Draw { form, width }));
+        asks_for(
+            &rt,
+            rt.alloc(),
+            words,
+            Ok(Task::Draw {
+                form,
+                pass: false,
+                width,
+            }),
+        );
     }
     let words = ["loop", "--width", "384"];
     asks_for(&rt, rt.alloc(), &words, Ok(Task::Loop { width }));
+}
+
+// With `--pass`, beside other settings, and where it isn't one.
+#[test]
+fn passes_over(rt: HostRuntime) {
+    let pass = true;
+    let form = Form::Raw;
+    let usual = LineWidth::usual();
+    let width = wide(&rt, 384);
+    let rows: [(&[&str], Task); 6] = [
+        (&["check", "--raw", "--pass"], Task::Check { form, pass }),
+        (
+            &["check", "--pass", "--raw", "--"],
+            Task::Check { form, pass },
+        ),
+        (
+            &["render", "--pass", "--raw"],
+            Task::Render {
+                form,
+                pass,
+                width: usual,
+            },
+        ),
+        (
+            &["render", "--raw", "--width", "384", "--pass"],
+            Task::Render { form, pass, width },
+        ),
+        (
+            &["render", "--raw", "--text", "--pass"],
+            Task::RenderText {
+                form,
+                pass,
+                width: usual,
+            },
+        ),
+        (
+            &["draw", "--pass", "--raw"],
+            Task::Draw {
+                form,
+                pass,
+                width: usual,
+            },
+        ),
+    ];
+    for (words, task) in rows {
+        asks_for(&rt, rt.alloc(), words, Ok(task));
+    }
+    for words in [
+        ["encode", "--pass"],
+        ["play", "--pass"],
+        ["loop", "--pass"],
+        ["check", "--pass=1"],
+        ["--pass", "check"],
+    ] {
+        asks_for(&rt, rt.alloc(), &words, Err(NoTask::Usage));
+    }
 }
 
 // The least width, the greatest, and the usual one, which is also that of `render` alone; `--` may follow a width.
@@ -55,6 +129,7 @@ fn widths_of_render(rt: HostRuntime) {
     for (words, dots) in rows {
         let task = Task::Render {
             form: Form::Hexadecimal,
+            pass: false,
             width: wide(&rt, dots),
         };
         asks_for(&rt, rt.alloc(), words, Ok(task));
@@ -288,6 +363,7 @@ fn words_for_plain_text(rt: HostRuntime) {
     for (words, form, dots) in rows {
         let task = Task::RenderText {
             form,
+            pass: false,
             width: wide(&rt, dots),
         };
         asks_for(&rt, rt.alloc(), words, Ok(task));

@@ -34,7 +34,7 @@ same_number e = ap nat_abs e
 
 module _ (is_text is_short : List ℕ → List ℕ → Type 0) (bytes text : List ℕ) (failed : Bool) where
   abbrev Ran : Status → Type 0
-  Ran status = RunsAs (ReportsAs is_text is_short) Raw (job_end (Some []) (Some text) failed status) bytes
+  Ran status = RunsAs (ReportsAs false is_text is_short) Raw (job_end (Some []) (Some text) failed status) bytes
 
   -- The job's text is the one for these bytes.
   text_for : (status : Status) → Ran status → IsOfContent status → IsTextFor is_text bytes text
@@ -49,7 +49,7 @@ module _ (is_text is_short : List ℕ → List ℕ → Type 0) (bytes text : Lis
     | inr short ↦ let found = (ran.short bytes short refl).text content in inl (short, subst (is_text bytes) (sym found.2) found.1)
   ]
 
-  all_read : Ran job.Good → (length bytes ≤ INPUT_LIMIT) × IsAllRead bytes
+  all_read : Ran job.Good → (length bytes ≤ INPUT_LIMIT) × IsAllRead false bytes
   all_read ran = elim (cases_lt INPUT_LIMIT (length bytes)) [
     | inl long ↦ absurd ((ran.too_long long).never_good refl)
     | inr short ↦ (short, (ran.short bytes short refl).good refl)
@@ -59,7 +59,7 @@ module _ (is_text is_short : List ℕ → List ℕ → Type 0) (bytes text : Lis
     abbrev Answers : CallStatus → Type 0
     Answers status = AnswersText is_text bytes (number_of_status status) before after written
 
-    good_answer : IsTextFor is_text bytes text → (length bytes ≤ INPUT_LIMIT) × IsAllRead bytes → Fills before after written text → Answers call.Good
+    good_answer : IsTextFor is_text bytes text → (length bytes ≤ INPUT_LIMIT) × IsAllRead false bytes → Fills before after written text → Answers call.Good
     good_answer is read fills = record {
       statuses = inl refl;
       text = λ _. (text, is, fills);
@@ -71,7 +71,7 @@ module _ (is_text is_short : List ℕ → List ℕ → Type 0) (bytes text : Lis
       within = within;
     }
 
-    refused_answer : IsTextFor is_text bytes text → (length bytes ≤ INPUT_LIMIT → IsAllRead bytes → ⊥) → Fills before after written text → Answers call.Refused
+    refused_answer : IsTextFor is_text bytes text → (length bytes ≤ INPUT_LIMIT → IsAllRead false bytes → ⊥) → Fills before after written text → Answers call.Refused
     refused_answer is unread fills = record {
       statuses = inr (inl refl);
       text = λ _. (text, is, fills);
@@ -139,13 +139,13 @@ module _ (is_text is_short : List ℕ → List ℕ → Type 0) (bytes text : Lis
 
     -- The same, where the job read a source of these bytes and printed into an empty text.
     pub told_text : (source empty : Option (List ℕ)) → source ≡ Some bytes → empty ≡ Some [] → (status : Status) (too_long : Bool) (answer : CallStatus) (z : ℤ)
-        → IfSome source (λ read. RunsAs (ReportsAs is_text is_short) Raw (job_end empty (Some text) failed status) read)
+        → IfSome source (λ read. RunsAs (ReportsAs false is_text is_short) Raw (job_end empty (Some text) failed status) read)
         → AnsweredWithin status too_long text answer before after written → z ≡ number_of_status answer
         → AnswersText is_text bytes (to_z w32 (of_z w32 z)) before after written
     told_text source empty is_source is_empty status too_long answer z ran given is_number =
-        let over : IfSome (Some bytes) (λ read. RunsAs (ReportsAs is_text is_short) Raw (job_end empty (Some text) failed status) read)
-        = subst (λ o. IfSome o (λ read. RunsAs (ReportsAs is_text is_short) Raw (job_end empty (Some text) failed status) read)) is_source ran in
-        let into : Ran status = subst (λ o. RunsAs (ReportsAs is_text is_short) Raw (job_end o (Some text) failed status) bytes) is_empty over in
+        let over : IfSome (Some bytes) (λ read. RunsAs (ReportsAs false is_text is_short) Raw (job_end empty (Some text) failed status) read)
+        = subst (λ o. IfSome o (λ read. RunsAs (ReportsAs false is_text is_short) Raw (job_end empty (Some text) failed status) read)) is_source ran in
+        let into : Ran status = subst (λ o. RunsAs (ReportsAs false is_text is_short) Raw (job_end o (Some text) failed status) bytes) is_empty over in
         subst (λ n. AnswersText is_text bytes n before after written) (sym (number_kept answer z is_number)) (answers_text status too_long answer into given)
 
 -- An answer for a width is the answer for what the width is, and its status comes to the caller as it is.

@@ -1,5 +1,5 @@
 -- What a call that makes a text of a stream answers: the listing, the paper, the picture.
-use Rattle.std.specs.Prelude.{ℕ, ℤ, pos, ◌≡◌, ◌⊎◌, ◌<◌, ◌≤◌, List, length, codes}
+use Rattle.std.specs.Prelude.{ℕ, ℤ, pos, ◌≡◌, ◌⊎◌, ◌<◌, ◌≤◌, false, List, length, codes}
 use Rattle.escpos_job_parts.specs.declared.input.TheConstants.{INPUT_LIMIT}
 use Rattle.escpos_stream_jobs.specs.Report.{IsAllRead}
 use Rattle.escpos_c.specs.declared.limited_text.TheConstants.{TEXT_LIMIT}
@@ -16,8 +16,8 @@ pub record AnswersText (is_text : List ℕ → List ℕ → Type 0) (bytes : Lis
   pub statuses : (status ≡ pos 0) ⊎ ((status ≡ pos 1) ⊎ ((status ≡ pos 4) ⊎ ((status ≡ pos 5) ⊎ (status ≡ pos 6))))
   -- at 0 and 1 the text is in the buffer, at 0 exactly if all bytes are read
   pub text : (status ≡ pos 0) ⊎ (status ≡ pos 1) → (text : List ℕ) × IsTextFor is_text bytes text × Fills before after written text
-  pub good : status ≡ pos 0 → (length bytes ≤ INPUT_LIMIT) × IsAllRead bytes
-  pub refused : status ≡ pos 1 → length bytes ≤ INPUT_LIMIT → IsAllRead bytes → ⊥
+  pub good : status ≡ pos 0 → (length bytes ≤ INPUT_LIMIT) × IsAllRead false bytes
+  pub refused : status ≡ pos 1 → length bytes ≤ INPUT_LIMIT → IsAllRead false bytes → ⊥
   pub memory : status ≡ pos 4 → (written ≡ 0) × (after ≡ before)
   pub short : status ≡ pos 5 → (text : List ℕ) × IsTextFor is_text bytes text × TooShort before after written text
   pub too_long : status ≡ pos 6 → (written ≡ 0) × (after ≡ before)

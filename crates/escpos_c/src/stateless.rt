@@ -2,7 +2,7 @@
 //!
 //! Those of the paper come twice: in lines of 512 dots, and in lines of as many as the caller says.
 
-ghost use Rattle.std.specs.Prelude.{MatchOption};
+ghost use Rattle.std.specs.Prelude.{MatchOption, false};
 ghost use Rattle.escpos_command.specs.declared.line_width.TheConstants.{USUAL_LINE_DOTS};
 ghost use Rattle.escpos_stream_jobs.specs.Report.{IsText};
 ghost use Rattle.escpos_stream_jobs.specs.Check.{listing_shape};
@@ -31,11 +31,11 @@ pub extern "C" fn escpos_listing(
     out: &mut [u8],
     written: &mut usize,
 ) -> i32
-    ensures { AnswersText (IsText listing_shape) bytes.now result out.old out.new written.new }
+    ensures { AnswersText (IsText listing_shape false) bytes.now result out.old out.new written.new }
 {
     let mut input = MemoryIn::new(bytes, usize::MAX);
     let mut text = LimitedText::new(alloc);
-    let status = check(alloc, Form::Raw, &mut input, &mut text);
+    let status = check(alloc, Form::Raw, false, &mut input, &mut text);
     answer_within(status, &text, out, written).number()
 }
 
@@ -47,7 +47,7 @@ pub extern "C" fn escpos_paper(
     out: &mut [u8],
     written: &mut usize,
 ) -> i32
-    ensures { AnswersText (IsText (paper_shape USUAL_LINE_DOTS)) bytes.now result out.old out.new written.new }
+    ensures { AnswersText (IsText (paper_shape USUAL_LINE_DOTS) false) bytes.now result out.old out.new written.new }
 {
     paper(alloc, LineWidth::usual(), bytes, out, written)
 }
@@ -62,7 +62,7 @@ pub extern "C" fn escpos_paper_at(
     written: &mut usize,
 ) -> i32
     ensures { MatchOption (line_dots width) (GivesNone result out.old out.new written.new)
-        (λ dots. AnswersText (IsText (paper_shape dots)) bytes.now result out.old out.new written.new) }
+        (λ dots. AnswersText (IsText (paper_shape dots) false) bytes.now result out.old out.new written.new) }
 {
     match line_width(width) {
         Some(line) => paper(alloc, line, bytes, out, written),
@@ -78,7 +78,7 @@ pub extern "C" fn escpos_paper_text(
     out: &mut [u8],
     written: &mut usize,
 ) -> i32
-    ensures { AnswersText (IsText (plain_shape USUAL_LINE_DOTS)) bytes.now result out.old out.new written.new }
+    ensures { AnswersText (IsText (plain_shape USUAL_LINE_DOTS) false) bytes.now result out.old out.new written.new }
 {
     paper_text(alloc, LineWidth::usual(), bytes, out, written)
 }
@@ -93,7 +93,7 @@ pub extern "C" fn escpos_paper_text_at(
     written: &mut usize,
 ) -> i32
     ensures { MatchOption (line_dots width) (GivesNone result out.old out.new written.new)
-        (λ dots. AnswersText (IsText (plain_shape dots)) bytes.now result out.old out.new written.new) }
+        (λ dots. AnswersText (IsText (plain_shape dots) false) bytes.now result out.old out.new written.new) }
 {
     match line_width(width) {
         Some(line) => paper_text(alloc, line, bytes, out, written),
@@ -109,7 +109,7 @@ pub extern "C" fn escpos_picture(
     out: &mut [u8],
     written: &mut usize,
 ) -> i32
-    ensures { AnswersText (IsPicture USUAL_LINE_DOTS) bytes.now result out.old out.new written.new }
+    ensures { AnswersText (IsPicture USUAL_LINE_DOTS false) bytes.now result out.old out.new written.new }
 {
     picture(alloc, LineWidth::usual(), bytes, out, written)
 }
@@ -124,7 +124,7 @@ pub extern "C" fn escpos_picture_at(
     written: &mut usize,
 ) -> i32
     ensures { MatchOption (line_dots width) (GivesNone result out.old out.new written.new)
-        (λ dots. AnswersText (IsPicture dots) bytes.now result out.old out.new written.new) }
+        (λ dots. AnswersText (IsPicture dots false) bytes.now result out.old out.new written.new) }
 {
     match line_width(width) {
         Some(line) => picture(alloc, line, bytes, out, written),
@@ -134,11 +134,11 @@ pub extern "C" fn escpos_picture_at(
 
 // Prints what a stream prints as text, in lines of this width.
 fn paper(alloc: Global, width: LineWidth, bytes: &[u8], out: &mut [u8], written: &mut usize) -> i32
-    ensures { AnswersText (IsText (paper_shape width)) bytes.now result out.old out.new written.new }
+    ensures { AnswersText (IsText (paper_shape width) false) bytes.now result out.old out.new written.new }
 {
     let mut input = MemoryIn::new(bytes, usize::MAX);
     let mut text = LimitedText::new(alloc);
-    let status = render(alloc, Form::Raw, width, &mut input, &mut text);
+    let status = render(alloc, Form::Raw, false, width, &mut input, &mut text);
     answer_within(status, &text, out, written).number()
 }
 
@@ -150,11 +150,11 @@ fn paper_text(
     out: &mut [u8],
     written: &mut usize,
 ) -> i32
-    ensures { AnswersText (IsText (plain_shape width)) bytes.now result out.old out.new written.new }
+    ensures { AnswersText (IsText (plain_shape width) false) bytes.now result out.old out.new written.new }
 {
     let mut input = MemoryIn::new(bytes, usize::MAX);
     let mut text = LimitedText::new(alloc);
-    let status = render_text(alloc, Form::Raw, width, &mut input, &mut text);
+    let status = render_text(alloc, Form::Raw, false, width, &mut input, &mut text);
     answer_within(status, &text, out, written).number()
 }
 
@@ -166,10 +166,10 @@ fn picture(
     out: &mut [u8],
     written: &mut usize,
 ) -> i32
-    ensures { AnswersText (IsPicture width) bytes.now result out.old out.new written.new }
+    ensures { AnswersText (IsPicture width false) bytes.now result out.old out.new written.new }
 {
     let mut input = MemoryIn::new(bytes, usize::MAX);
     let mut text = LimitedText::new(alloc);
-    let status = draw(alloc, Form::Raw, width, &mut input, &mut text);
+    let status = draw(alloc, Form::Raw, false, width, &mut input, &mut text);
     answer_within(status, &text, out, written).number()
 }

@@ -81,6 +81,7 @@ fn rows_of_plain_text(rt: HostRuntime) {
 fn plain_text_in_narrow_lines(rt: HostRuntime) {
     let task = Task::RenderText {
         form: Form::Raw,
+        pass: false,
         width: LineWidth::new(24).expect(&rt, "a width"),
     };
     let rows: [Row; 1] = [(

@@ -14,9 +14,9 @@ pub const VERSION: &str = "escpos_cli 1.4.0, profile 4\n";
 
 /// The text for arguments that name no task.
 pub const USAGE: &str = "\
-usage: escpos_cli check [--raw] < STREAM
-       escpos_cli render [--raw] [--width D] [--text] < STREAM
-       escpos_cli draw [--raw] [--width D] < STREAM
+usage: escpos_cli check [--raw] [--pass] < STREAM
+       escpos_cli render [--raw] [--pass] [--width D] [--text] < STREAM
+       escpos_cli draw [--raw] [--pass] [--width D] < STREAM
        escpos_cli encode [--raw] [--width D] [--replace C] < RECEIPT
        escpos_cli image [--width D] [--threshold T] < PICTURE
        escpos_cli play < SCRIPT
@@ -53,7 +53,12 @@ than 16777216 bytes gives the one line `refused input`; without `--raw` any
 other that isn't hexadecimal gives `refused hex`: bytes want `--raw`. A last
 line `memory` says that the program ran out of memory.
 
-  escpos_cli check [--raw]
+With `--pass` these three pass over each command that the Reference has and that
+means nothing here, and go on after it. `render` says `passed N` before its last
+line and `draw` says it under the paper: so many were passed over, and the paper
+of a printer that knows them may differ.
+
+  escpos_cli check [--raw] [--pass]
       Lists the commands. Each gives one line: the number of bytes before it,
       its name, and what it carries. The last line is `end N pending P`, where N
       bytes were read and the last P of them are a command that isn't complete,
@@ -62,7 +67,8 @@ line `memory` says that the program ran out of memory.
       in whose data stand the bytes of a real-time command.
 
       Taken are characters and the commands that the table below says; any other
-      command is refused at its exact byte.
+      command is refused at its exact byte. One that is passed over is listed as
+      `PLACE passed NAME`, with its bytes after those that the name stands for.
 
           $ escpos_cli check --raw < capture.bin
           $ echo '1B 40 48 69 0A 1D 56 00' | escpos_cli check
@@ -72,6 +78,10 @@ line `memory` says that the program ran out of memory.
           4 lf
           5 cut 00
           end 8 pending 0
+          $ echo '1B 42 02 04 48' | escpos_cli check --pass
+          0 passed ESC B 02 04
+          4 char 48
+          end 5 pending 0
 
       The commands of Epson's Reference by their first bytes, hexadecimal. What
       is taken may still be refused at a parameter that it doesn't have; a byte
@@ -167,7 +177,7 @@ line `memory` says that the program ran out of memory.
 
 /// What follows those lines.
 pub const HELP_END: &str = "
-  escpos_cli render [--raw] [--width D] [--text]
+  escpos_cli render [--raw] [--pass] [--width D] [--text]
       Writes the paper that the commands print, an item a line: rows of
       characters with their alignment and styles, barcodes, rasters, QR codes,
       feeds of lines (`feed`) and of motion units (`units`), and cuts. After a
@@ -207,7 +217,7 @@ pub const HELP_END: &str = "
           row left €4
           feed 1
 
-  escpos_cli draw [--raw] [--width D]
+  escpos_cli draw [--raw] [--pass] [--width D]
       Draws the same paper as a picture, an SVG document that any browser shows:
       text that can be selected, the dots of rasters, and barcodes that a
       scanner reads. One that doesn't fit on the line, or that its symbology

@@ -1,6 +1,6 @@
 //! What the program does for its arguments, over any source and sink: a job, a link, or a text.
 
-ghost use Rattle.std.specs.Prelude.{◌≡◌, ◌≢◌, ◌⊎◌, ◌+◌, ◌≤◌, ℕ, Option, IfSome, IsTrue};
+ghost use Rattle.std.specs.Prelude.{◌≡◌, ◌≢◌, ◌⊎◌, ◌+◌, ◌≤◌, ℕ, Bool, Option, IfSome, IsTrue};
 ghost use Rattle.escpos_job_parts.specs.declared.form.Form.{Form};
 ghost use Rattle.escpos_job_parts.specs.declared.input.TheConstants.{INPUT_LIMIT};
 ghost use Rattle.escpos_stream_jobs.specs.Check.{Checks};
@@ -47,14 +47,14 @@ pub fn perform<N: Printers + Net<Listener = TcpListener>, R: ByteIn, W: ByteOut>
     input: &mut R,
     output: &mut W,
 ) -> Status
-    ensures check { (form : Form) → asked ≡ Ok (Task.Check form) →
-        IfSome (R.to_come input.old) (λ given. Checks form (job_end (W.written output.old) (W.written output.new) (W.failed output.new) result) given) }
-    ensures render { (form : Form) (width : ℕ) → asked ≡ Ok (Task.Render form width) →
-        IfSome (R.to_come input.old) (λ given. Renders form width (job_end (W.written output.old) (W.written output.new) (W.failed output.new) result) given) }
-    ensures render_text { (form : Form) (width : ℕ) → asked ≡ Ok (Task.RenderText form width) →
-        IfSome (R.to_come input.old) (λ given. RendersText form width (job_end (W.written output.old) (W.written output.new) (W.failed output.new) result) given) }
-    ensures draw { (form : Form) (width : ℕ) → asked ≡ Ok (Task.Draw form width) →
-        IfSome (R.to_come input.old) (λ given. DrawsInput form width (job_end (W.written output.old) (W.written output.new) (W.failed output.new) result) given) }
+    ensures check { (form : Form) (pass : Bool) → asked ≡ Ok (Task.Check form pass) →
+        IfSome (R.to_come input.old) (λ given. Checks form pass (job_end (W.written output.old) (W.written output.new) (W.failed output.new) result) given) }
+    ensures render { (form : Form) (pass : Bool) (width : ℕ) → asked ≡ Ok (Task.Render form pass width) →
+        IfSome (R.to_come input.old) (λ given. Renders form pass width (job_end (W.written output.old) (W.written output.new) (W.failed output.new) result) given) }
+    ensures render_text { (form : Form) (pass : Bool) (width : ℕ) → asked ≡ Ok (Task.RenderText form pass width) →
+        IfSome (R.to_come input.old) (λ given. RendersText form pass width (job_end (W.written output.old) (W.written output.new) (W.failed output.new) result) given) }
+    ensures draw { (form : Form) (pass : Bool) (width : ℕ) → asked ≡ Ok (Task.Draw form pass width) →
+        IfSome (R.to_come input.old) (λ given. DrawsInput form pass width (job_end (W.written output.old) (W.written output.new) (W.failed output.new) result) given) }
     ensures encode { (form : Form) (options : ReceiptOptions) → asked ≡ Ok (Task.Encode form options) →
         IfSome (R.to_come input.old) (λ text. Encodes form options (job_end (W.written output.old) (W.written output.new) (W.failed output.new) result) text) }
     ensures image { (width : ℕ) (threshold : Option ℕ) → asked ≡ Ok (Task.Image width threshold) →
@@ -76,10 +76,14 @@ pub fn perform<N: Printers + Net<Listener = TcpListener>, R: ByteIn, W: ByteOut>
     ensures pulls { R.pull_count input.new ≤ R.pull_count input.old + INPUT_LIMIT + 1 }
 {
     match &asked {
-        Ok(Task::Check { form }) => check(alloc, *form, input, output),
-        Ok(Task::Render { form, width }) => render(alloc, *form, *width, input, output),
-        Ok(Task::RenderText { form, width }) => render_text(alloc, *form, *width, input, output),
-        Ok(Task::Draw { form, width }) => draw(alloc, *form, *width, input, output),
+        Ok(Task::Check { form, pass }) => check(alloc, *form, *pass, input, output),
+        Ok(Task::Render { form, pass, width }) => render(
+            alloc, *form, *pass, *width, input, output,
+        ),
+        Ok(Task::RenderText { form, pass, width }) => render_text(
+            alloc, *form, *pass, *width, input, output,
+        ),
+        Ok(Task::Draw { form, pass, width }) => draw(alloc, *form, *pass, *width, input, output),
         Ok(Task::Encode { form, options }) => encode(alloc, *form, options, input, output),
         Ok(Task::Image { width, threshold }) => image(alloc, *width, *threshold, input, output),
         Ok(Task::Play) => play(alloc, input, output),

@@ -10,23 +10,27 @@ use thiserror::Error;
 /// What the program is asked to do.
 #[derive(Clone, Copy, Debug, PartialEq, Eq)]
 pub enum Task {
-    /// List the commands of a byte stream that is given in this form.
+    /// List the commands of a byte stream that is given in this form; with `pass` those too that are passed over.
     Check {
         form: Form,
+        pass: bool,
     },
-    /// Write the paper that such a stream prints in lines of this width.
+    /// Write the paper that such a stream prints in lines of this width; with `pass` commands whose length is known are passed over.
     Render {
         form: Form,
+        pass: bool,
         width: LineWidth,
     },
     /// Write that paper as plain text.
     RenderText {
         form: Form,
+        pass: bool,
         width: LineWidth,
     },
     /// Draw that paper.
     Draw {
         form: Form,
+        pass: bool,
         width: LineWidth,
     },
     /// Write the bytes of the commands of a receipt that is read with these options, in this form.

@@ -2,7 +2,7 @@
 
 use escpos_job_parts::status::Status;
 use escpos_jobs::task::Task;
-use escpos_test_jobs::{draw_task, prints, raw_draw_task};
+use escpos_test_jobs::{draw_task, passing_draw_task, prints, raw_draw_task};
 use std::alloc::Global;
 use std::process::Abort;
 
@@ -343,4 +343,18 @@ fn draws_bytes_and_refuses_input(rt: HostRuntime) {
     draws(&rt, rt.alloc(), raw_draw_task(), BYTES);
     let refused = (b"refused hex\n".as_slice(), Status::Refused);
     assert!(&rt; prints(rt.alloc(), draw_task(), b"4", refused));
+}
+
+// A buzzer after a line, and the words on it under the paper.
+const BUZZES: &[u8] = b"A\n\x1BB\x02\x04";
+
+const WORDS: &str =
+    "<g class=\"row\" transform=\"translate(32,50)\"><text x=\"0\" textLength=\"12\">A</text></g>\n<g class=\"feed\"/>\n\
+     <text class=\"last\" x=\"32\" y=\"120\">passed 1: the paper may differ\n</text>\n";
+
+#[test]
+fn draws_words_on_what_is_passed_over(rt: HostRuntime) {
+    let text = document(&rt, rt.alloc(), "94", "134", WORDS);
+    let wanted = (text.as_bytes(), Status::Good);
+    assert!(&rt; prints(rt.alloc(), passing_draw_task(), BUZZES, wanted));
 }

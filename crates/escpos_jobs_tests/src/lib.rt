@@ -20,6 +20,8 @@ mod input;
 #[cfg(test)]
 mod memory;
 #[cfg(test)]
+mod pass;
+#[cfg(test)]
 mod play;
 #[cfg(test)]
 mod qr_codes;

@@ -34,6 +34,7 @@ fn prints_wide(rt: &impl Abort, alloc: Global, dots: u16, rows: &[Row]) {
     let width = LineWidth::new(dots).expect(rt, "a width");
     let task = Task::Render {
         form: Form::Raw,
+        pass: false,
         width,
     };
     assert!(rt; performs_rows(alloc, task, rows, &[1, 4096]), "{dots}");

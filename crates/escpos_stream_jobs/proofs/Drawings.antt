@@ -10,15 +10,16 @@ use Rattle.escpos_picture.specs.Places.{Place, top, place_after_all}
 use Rattle.escpos_picture.specs.Groups.{drawings}
 use Rattle.escpos_picture.specs.Document.{foot, head, last_tag}
 use Rattle.escpos_paper.specs.Styles.{is_empty}
-use Rattle.std.specs.Prelude.{codes}
-use Rattle.escpos_command.specs.Grammar.{Reads}
-use Rattle.escpos_command.proofs.Readings.{one_reading, one_fault, not_both}
+use Rattle.std.specs.Prelude.{codes, if◌then◌else◌}
+use Rattle.std.proofs.lemmas.Bool.{ne_eqb}
+use Rattle.escpos_passed.specs.Tokens.{Token, passed_count, commands_of, ReadsWith}
+use Rattle.escpos_passed.proofs.With.{one_reading_with, one_fault_with, not_both_with}
 use Rattle.escpos_job_parts.specs.declared.status.Status.{Status}
 use Rattle.escpos_job_parts.specs.declared.status.Status.TheVariants.{Refused, Usage, Device, Memory}
 use Rattle.escpos_job_parts.specs.Lines.{fault_line}
 use Rattle.escpos_job_parts.specs.Ending.{JobEnd, PrintsText, StatusFits, memory_line}
 use Rattle.escpos_stream_jobs.specs.Render.{half_line}
-use Rattle.escpos_stream_jobs.specs.Draw.{Draws, IsOutcome, IsPicture, IsShortPicture}
+use Rattle.escpos_stream_jobs.specs.Draw.{Draws, IsOutcome, IsPicture, IsShortPicture, passed_words, some_words}
 use Rattle.escpos_stream_jobs.proofs.Reports.{short_as}
 use Rattle.escpos_stream_jobs.specs.DrawSteps.{IsDrawn, IsMeasured}
 
@@ -78,25 +79,32 @@ measured_at_first width sheet place is at = record { torn = ap (λ (s : Sheet). 
 -- ## The outcome of a byte list
 
 -- There is one.
-pub one_outcome : (bytes : List ℕ) (cs ds : List Command) (last line : List ℕ) → IsOutcome bytes cs last → IsOutcome bytes ds line → (cs ≡ ds) × (last ≡ line)
-one_outcome bytes cs ds last line (inl a) (inl b) =
-    let same = one_reading bytes cs ds a.0 b.0 a.1 b.1 in
-    (same.0, a.2 ∙ ap (λ rest. half_line (length bytes) (length rest)) same.1 ∙ sym b.2)
-one_outcome bytes cs ds last line (inl a) (inr b) = absurd (not_both bytes cs ds a.0 b.0 b.1 b.2 a.1 b.3)
-one_outcome bytes cs ds last line (inr a) (inl b) = absurd (not_both bytes ds cs b.0 a.0 a.1 a.2 b.1 a.3)
-one_outcome bytes cs ds last line (inr a) (inr b) =
-    let same = one_fault bytes cs ds a.0 b.0 a.1 b.1 a.2 b.2 a.3 b.3 in
-    (same.0, a.4 ∙ ap (λ n. fault_line n a.2) same.2 ∙ ap (λ w. fault_line b.1 w) same.3 ∙ sym b.4)
+pub one_outcome : (pass : Bool) (bytes : List ℕ) (ts us : List Token) (last line : List ℕ) → IsOutcome pass bytes ts last → IsOutcome pass bytes us line → (ts ≡ us) × (last ≡ line)
+one_outcome pass bytes ts us last line (inl a) (inl b) =
+    let same = one_reading_with pass bytes ts us a.0 b.0 a.1 b.1 in (
+      same.0,
+      a.2 ∙ ap (λ v. passed_words (passed_count v) ++ half_line (length bytes) (length a.0)) same.0
+          ∙ ap (λ rest. passed_words (passed_count us) ++ half_line (length bytes) (length rest)) same.1 ∙ sym b.2,
+    )
+one_outcome pass bytes ts us last line (inl a) (inr b) = absurd (not_both_with pass bytes ts us a.0 b.0 b.1 a.1 b.2)
+one_outcome pass bytes ts us last line (inr a) (inl b) = absurd (not_both_with pass bytes us ts b.0 a.0 a.1 b.1 a.2)
+one_outcome pass bytes ts us last line (inr a) (inr b) =
+    let same = one_fault_with pass bytes ts us a.0 b.0 a.1 b.1 a.2 b.2 in (
+      same.0,
+      a.3 ∙ ap (λ v. passed_words (passed_count v) ++ fault_line a.0 a.1) same.0 ∙ ap (λ n. passed_words (passed_count us) ++ fault_line n a.1) same.1
+          ∙ ap (λ w. passed_words (passed_count us) ++ fault_line b.0 w) same.2 ∙ sym b.3,
+    )
 
 -- The head of the first reading, the items and the foot of the second are one picture.
-pub picture_is : (width : ℕ) (bytes : List ℕ) (measured down : ℕ) (has_last : Bool) (all cs : List Command) (last line : List ℕ)
-    → IsOutcome bytes all last → measured ≡ (place_after_all (top width) (printed width all)).down → has_last ≡ not (is_empty last)
-    → IsOutcome bytes cs line → down ≡ measured
-    → IsPicture width bytes (head width measured has_last ++ drawings (top width) (printed width cs) ++ foot down line)
-picture_is width bytes measured down has_last all cs last line first depth has second same =
-    let one = one_outcome bytes all cs last line first second in
-    let deep : measured ≡ (place_after_all (top width) (printed width cs)).down = depth ∙ ap (λ ds. (place_after_all (top width) (printed width ds)).down) one.0 in (
-      cs,
+pub picture_is : (width : ℕ) (pass : Bool) (bytes : List ℕ) (measured down : ℕ) (has_last : Bool) (all ts : List Token) (last line : List ℕ)
+    → IsOutcome pass bytes all last → measured ≡ (place_after_all (top width) (printed width (commands_of all))).down → has_last ≡ not (is_empty last)
+    → IsOutcome pass bytes ts line → down ≡ measured
+    → IsPicture width pass bytes (head width measured has_last ++ drawings (top width) (printed width (commands_of ts)) ++ foot down line)
+picture_is width pass bytes measured down has_last all ts last line first depth has second same =
+    let one = one_outcome pass bytes all ts last line first second in
+    let cs = commands_of ts in
+    let deep : measured ≡ (place_after_all (top width) (printed width cs)).down = depth ∙ ap (λ us. (place_after_all (top width) (printed width (commands_of us))).down) one.0 in (
+      ts,
       line,
       second,
       ap (λ d. head width measured has_last ++ drawings (top width) (printed width cs) ++ foot d line) (same ∙ deep)
@@ -106,20 +114,20 @@ picture_is width bytes measured down has_last all cs last line first depth has s
     )
 
 -- The head of the first reading, some items of the second, and the line that says that an allocation failed.
-pub short_is : (width : ℕ) (bytes : List ℕ) (measured : ℕ) (has_last : Bool) (all cs : List Command) (last rest : List ℕ) (k : ℕ)
-    → IsOutcome bytes all last → measured ≡ (place_after_all (top width) (printed width all)).down → has_last ≡ not (is_empty last) → Reads (take k bytes) cs rest
-    → IsShortPicture width bytes (head width measured has_last ++ drawings (top width) (printed width cs) ++ memory_line)
-short_is width bytes measured has_last all cs last rest k first depth has read =
+pub short_is : (width : ℕ) (pass : Bool) (bytes : List ℕ) (measured : ℕ) (has_last : Bool) (all ts : List Token) (last rest : List ℕ) (k : ℕ)
+    → IsOutcome pass bytes all last → measured ≡ (place_after_all (top width) (printed width (commands_of all))).down → has_last ≡ not (is_empty last) → ReadsWith pass (take k bytes) ts rest
+    → IsShortPicture width pass bytes (head width measured has_last ++ drawings (top width) (printed width (commands_of ts)) ++ memory_line)
+short_is width pass bytes measured has_last all ts last rest k first depth has read =
     inr (
       all,
       last,
       first,
       k,
-      cs,
+      ts,
       rest,
       read,
-      ap (λ d. head width d has_last ++ drawings (top width) (printed width cs) ++ memory_line) depth
-          ∙ ap (λ b. head width (place_after_all (top width) (printed width all)).down b ++ drawings (top width) (printed width cs) ++ memory_line) has,
+      ap (λ d. head width d has_last ++ drawings (top width) (printed width (commands_of ts)) ++ memory_line) depth
+          ∙ ap (λ b. head width (place_after_all (top width) (printed width (commands_of all))).down b ++ drawings (top width) (printed width (commands_of ts)) ++ memory_line) has,
     )
 
 -- A status of content is no other.
@@ -138,5 +146,9 @@ pub refused_is_no_usage : Refused ≢ Usage
 refused_is_no_usage e = cc
 
 -- Only the line that says that an allocation failed is printed.
-pub draws_at_memory : (width : ℕ) (o : JobEnd) (bytes : List ℕ) → PrintsText o memory_line Memory → Draws width o bytes
-draws_at_memory width o bytes says = short_as (IsPicture width) (IsShortPicture width) o bytes memory_line (inl refl) says
+pub draws_at_memory : (width : ℕ) (pass : Bool) (o : JobEnd) (bytes : List ℕ) → PrintsText o memory_line Memory → Draws width pass o bytes
+draws_at_memory width pass o bytes says = short_as pass (IsPicture width pass) (IsShortPicture width pass) o bytes memory_line (inl refl) says
+
+-- The words, where some commands were passed over.
+pub words_there : (n : ℕ) → (n ≡ 0 → ⊥) → passed_words n ≡ some_words n
+words_there n h = ap (λ (t : Bool). if t then [] else some_words n) (ne_eqb n 0 h)

@@ -6,3 +6,5 @@ pub mod Reports
 pub mod Spellings
 pub mod Encodings
 pub mod EntrySpellings
+pub mod TokenCommands
+pub mod ValuesPut

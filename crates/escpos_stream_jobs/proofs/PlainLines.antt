@@ -13,6 +13,7 @@ use Rattle.escpos_command.specs.declared.fault.FaultReason.TheVariants.{UnknownB
 use Rattle.escpos_command.specs.Places.{reason_number, reason_name}
 use Rattle.escpos_picture.specs.Escaping.{is_plain}
 use Rattle.escpos_job_parts.specs.Lines.{end_line, fault_line}
+use Rattle.escpos_stream_jobs.specs.Draw.{some_words}
 
 plain_in_range : ℕ → Bool
 plain_in_range b = not (nat_le 48 b && nat_le b 57) || is_plain b
@@ -72,4 +73,14 @@ plain_fault place why few = (
   apart (codes "fault ") (decimal place) (codes " ") (decimal (reason_number why)) (codes " ") (reason_name why) (codes "\n"),
   joined (codes "fault " ++ decimal place) (codes " " ++ decimal (reason_number why) ++ codes " " ++ reason_name why)
       (joined (codes "fault ") (decimal place) refl (plain_number place few)) (plain_name why),
+)
+
+words_apart : (start number words end : List ℕ) → start ++ number ++ (words ++ end) ≡ start ++ number ++ words ++ end
+words_apart start number words end = simp append_assoc
+
+pub plain_words : (n : ℕ) → n < 2 ^ 64 → (text : List ℕ) × (some_words n ≡ text ++ codes "\n") × IsTrue (list_all is_plain text)
+plain_words n few = (
+  codes "passed " ++ decimal n ++ codes ": the paper may differ",
+  words_apart (codes "passed ") (decimal n) (codes ": the paper may differ") (codes "\n"),
+  joined (codes "passed " ++ decimal n) (codes ": the paper may differ") (joined (codes "passed ") (decimal n) refl (plain_number n few)) refl,
 )

@@ -1,14 +1,10 @@
 -- What a job prints for a byte stream, from how far the stream was read.
-use Rattle.std.proofs.Common.{◌≡◌, ◌≢◌, ℕ, refl, inl, inr, List, [], ◌∷◌, ◌++◌, length, take, drop, append_assoc, append-nil, sym, ◌∙◌, ap, subst, arith, Ok}
+use Rattle.std.proofs.Common.{◌≡◌, ◌≢◌, ℕ, Bool, refl, inl, inr, List, [], ◌++◌, length, take, sym, ◌∙◌, ap, subst, arith, Ok}
 use Rattle.std.specs.Prelude.{IsTrue, IsErr, IfSome, Option, Some, None, codes, ◌<◌, ◌≤◌}
-use Rattle.std.specs.List.{AllByRecursion}
-use Rattle.std.proofs.lemmas.Grind.{flat_map-append}
-use Rattle.std.proofs.lemmas.List.{nil_from_length, take-append-le, take-append-drop, take_all}
-use Rattle.escpos_command.specs.CommandTable.{IsCommand, row, spell}
-use Rattle.escpos_command.specs.declared.command.Command.{Command}
+use Rattle.std.proofs.lemmas.List.{nil_from_length}
 use Rattle.escpos_command.specs.declared.fault.FaultReason.{FaultReason}
-use Rattle.escpos_command.specs.Grammar.{Reads, FaultAt}
-use Rattle.escpos_command.specs.Laws.{IsRead, IsRefused}
+use Rattle.escpos_passed.specs.Tokens.{Token, passed_count, ReadsWith, FaultWith}
+use Rattle.escpos_passed.proofs.With.{one_reading_with, not_both_with, reads_none}
 use Rattle.escpos_job_parts.specs.declared.form.Form.{Form}
 use Rattle.escpos_job_parts.specs.declared.input.TheConstants.{INPUT_LIMIT}
 use Rattle.escpos_job_parts.specs.declared.input.InputFault.{InputFault}
@@ -79,83 +75,59 @@ refused_fits status half (inr e) h = e.1
 -- ## Reports
 
 -- All bytes were read.
-pub read_as : ((bs : List ℕ) (cs ds : List Command) (x y : List ℕ) → Reads bs cs x → Reads bs ds y → (cs ≡ ds) × (x ≡ y))
-    → (is_text is_short : List ℕ → List ℕ → Type 0) (o : JobEnd) (bytes half text : List ℕ) (cs : List Command) (status : Status) → Reads bytes cs half
-    → is_text bytes text → StatusFits status (length half) → PrintsText o text status → ReportsAs is_text is_short o bytes
-read_as one is_text is_short o bytes half text cs status r is fits s = record {
+pub read_as : (pass : Bool) (is_text is_short : List ℕ → List ℕ → Type 0) (o : JobEnd) (bytes half text : List ℕ) (ts : List Token) (status : Status) → ReadsWith pass bytes ts half
+    → is_text bytes text → StatusFits status (length half) → PrintsText o text status → ReportsAs pass is_text is_short o bytes
+read_as pass is_text is_short o bytes half text ts status r is fits s = record {
   text = λ content. (text, is, s.out (no_device o content));
   good = λ e.
       let none = good_fits status (length half) fits (sym (as_wanted o _ status s (no_device o (inl e))) ∙ e) in
-      (cs, subst (λ v. Reads bytes cs v) (nil_from_length half none) r);
+      (ts, subst (λ v. ReadsWith pass bytes ts v) (nil_from_length half none) r);
   refused = λ e all.
       let some = refused_fits status (length half) fits (sym (as_wanted o _ status s (no_device o (inr e))) ∙ e) in
-      let same = one bytes cs all.0 half [] r all.1 in
+      let same = one_reading_with pass bytes ts all.0 half [] r all.1 in
       some (ap length same.1);
   memory = λ e. absurd (memory_never_fits status (length half) fits (sym (as_wanted o _ status s (memory_no_device o e)) ∙ e));
 }
 
-pub reports_read : ((bs : List ℕ) (cs ds : List Command) (x y : List ℕ) → Reads bs cs x → Reads bs ds y → (cs ≡ ds) × (x ≡ y))
-    → (shape : Shape) (o : JobEnd) (bytes half line : List ℕ) (cs : List Command) (status : Status) → Reads bytes cs half
-    → line ≡ shape.last (length bytes) (length half) → StatusFits status (length half) → PrintsText o (shape.gives cs ++ line) status → Reports shape o bytes
-reports_read one shape o bytes half line cs status r l fits s =
-    read_as one (IsText shape) (IsCutShort shape) o bytes half (shape.gives cs ++ line) cs status r (inl (cs, half, r, ap (λ v. shape.gives cs ++ v) l)) fits s
+pub reports_read : (shape : Shape) (pass : Bool) (o : JobEnd) (bytes half line : List ℕ) (ts : List Token) (status : Status) → ReadsWith pass bytes ts half
+    → line ≡ shape.closing (passed_count ts) ++ shape.last (length bytes) (length half) → StatusFits status (length half) → PrintsText o (shape.gives ts ++ line) status → Reports shape pass o bytes
+reports_read shape pass o bytes half line ts status r l fits s =
+    read_as pass (IsText shape pass) (IsCutShort shape pass) o bytes half (shape.gives ts ++ line) ts status r (inl (ts, half, r, ap (λ v. shape.gives ts ++ v) l)) fits s
 
 -- A byte was refused.
-pub refused_as : ((bs : List ℕ) → IsRead bs → IsRefused bs → ⊥)
-    → (is_text is_short : List ℕ → List ℕ → Type 0) (o : JobEnd) (bytes text : List ℕ) → IsRefused bytes
-    → is_text bytes text → PrintsText o text Refused → ReportsAs is_text is_short o bytes
-refused_as not_both is_text is_short o bytes text f is s = record {
+pub refused_as : (pass : Bool) (is_text is_short : List ℕ → List ℕ → Type 0) (o : JobEnd) (bytes text : List ℕ) (ts : List Token) (place : ℕ) (why : FaultReason) → FaultWith pass bytes ts place why
+    → is_text bytes text → PrintsText o text Refused → ReportsAs pass is_text is_short o bytes
+refused_as pass is_text is_short o bytes text ts place why f is s = record {
   text = λ content. (text, is, s.out (no_device o content));
   good = λ e. let k = sym e ∙ as_wanted o _ Refused s (no_device o (inl e)) in absurd cc;
-  refused = λ e all. not_both bytes (all.0, [], all.1) f;
+  refused = λ e all. not_both_with pass bytes all.0 ts [] place why all.1 f;
   memory = λ e. let k = sym e ∙ as_wanted o _ Refused s (memory_no_device o e) in absurd cc;
 }
 
-pub reports_refused : ((bs : List ℕ) → IsRead bs → IsRefused bs → ⊥)
-    → (shape : Shape) (o : JobEnd) (bytes rest line : List ℕ) (cs : List Command) (place : ℕ) (why : FaultReason) → FaultAt bytes cs rest place why
-    → line ≡ fault_line place why → PrintsText o (shape.gives cs ++ line) Refused → Reports shape o bytes
-reports_refused not_both shape o bytes rest line cs place why f l s =
-    refused_as not_both (IsText shape) (IsCutShort shape) o bytes (shape.gives cs ++ line) (cs, rest, place, why, f)
-    (inr (cs, rest, place, why, f, ap (λ v. shape.gives cs ++ v) l)) s
+pub reports_refused : (shape : Shape) (pass : Bool) (o : JobEnd) (bytes line : List ℕ) (ts : List Token) (place : ℕ) (why : FaultReason) → FaultWith pass bytes ts place why
+    → line ≡ shape.closing (passed_count ts) ++ fault_line place why → PrintsText o (shape.gives ts ++ line) Refused → Reports shape pass o bytes
+reports_refused shape pass o bytes line ts place why f l s =
+    refused_as pass (IsText shape pass) (IsCutShort shape pass) o bytes (shape.gives ts ++ line) ts place why f
+    (inr (ts, place, why, f, ap (λ v. shape.gives ts ++ v) l)) s
 
 -- Memory ran out after a prefix of the bytes.
-pub short_as : (is_text is_short : List ℕ → List ℕ → Type 0) (o : JobEnd) (bytes text : List ℕ) → is_short bytes text
-    → PrintsText o text Memory → ReportsAs is_text is_short o bytes
-short_as is_text is_short o bytes text is s = record {
+pub short_as : (pass : Bool) (is_text is_short : List ℕ → List ℕ → Type 0) (o : JobEnd) (bytes text : List ℕ) → is_short bytes text
+    → PrintsText o text Memory → ReportsAs pass is_text is_short o bytes
+short_as pass is_text is_short o bytes text is s = record {
   text = λ content. absurd (content_no_memory o content (as_wanted o _ Memory s (no_device o content)));
   good = λ e. let h = sym e ∙ as_wanted o _ Memory s (no_device o (inl e)) in absurd cc;
   refused = λ e all. let h = sym e ∙ as_wanted o _ Memory s (no_device o (inr e)) in cc;
   memory = λ e. (text, is, s.out (memory_no_device o e));
 }
 
-pub reports_cut_short : (shape : Shape) (o : JobEnd) (bytes half : List ℕ) (k : ℕ) (cs : List Command) → Reads (take k bytes) cs half
-    → PrintsText o (shape.gives cs ++ memory_line) Memory → Reports shape o bytes
-reports_cut_short shape o bytes half k cs r s =
-    short_as (IsText shape) (IsCutShort shape) o bytes (shape.gives cs ++ memory_line) (k, cs, half, r, refl) s
-
-all_front : (cs ds : List Command) → AllByRecursion IsCommand (cs ++ ds) → AllByRecursion IsCommand cs
-all_front [] ds h = tt
-all_front (c ∷ cs) ds h = (h.0, all_front cs ds h.1)
-
-take_front : (front more : List ℕ) → take (length front) (front ++ more) ≡ front
-take_front front more = let within : length front ≤ length front = omega arith in rw (take-append-le (length front) front more within) (take_all (length front) front within)
-
--- A prefix that ends in a command has a prefix without it.
-pub front_without : (bytes : List ℕ) (k : ℕ) (cs : List Command) (c : Command) → Reads (take k bytes) (cs ++ c ∷ []) []
-    → (j : ℕ) × Reads (take j bytes) cs []
-front_without bytes k cs c r =
-    let whole : bytes ≡ spell cs ++ ((spell (c ∷ []) ++ []) ++ drop k bytes) =
-    sym (take-append-drop k bytes) ∙ ap (λ v. v ++ drop k bytes) (r.whole ∙ ap (λ v. v ++ []) (flat_map-append row cs (c ∷ [])) ∙ append_assoc (spell cs) (spell (c ∷ [])) [])
-    ∙ append_assoc (spell cs) (spell (c ∷ []) ++ []) (drop k bytes) in
-    let front : take (length (spell cs)) bytes ≡ spell cs = ap (take (length (spell cs))) whole ∙ take_front (spell cs) _ in
-    (length (spell cs), record { commands = all_front cs (c ∷ []) r.commands; whole = front ∙ sym (append-nil (spell cs)); rest_is = inl refl })
-
-reads_nothing : Reads [] [] []
-reads_nothing = record { commands = tt; whole = refl; rest_is = inl refl }
+pub reports_cut_short : (shape : Shape) (pass : Bool) (o : JobEnd) (bytes half : List ℕ) (k : ℕ) (ts : List Token) → ReadsWith pass (take k bytes) ts half
+    → PrintsText o (shape.gives ts ++ memory_line) Memory → Reports shape pass o bytes
+reports_cut_short shape pass o bytes half k ts r s =
+    short_as pass (IsText shape pass) (IsCutShort shape pass) o bytes (shape.gives ts ++ memory_line) (k, ts, half, r, refl) s
 
 -- The bytes couldn't even be read, because an allocation failed.
-short_at_once : (shape : Shape) (bytes : List ℕ) → IsCutShort shape bytes memory_line
-short_at_once shape bytes = (0, [], [], reads_nothing, ap (λ v. v ++ memory_line) (sym shape.starts_empty))
+short_at_once : (shape : Shape) (pass : Bool) (bytes : List ℕ) → IsCutShort shape pass bytes memory_line
+short_at_once shape pass bytes = (0, [], [], reads_none pass, ap (λ v. v ++ memory_line) (sym shape.starts_empty))
 
 -- ## Input that gives no bytes
 
@@ -192,8 +164,8 @@ refuses_at_memory o line s = record {
   memory = λ e. s.out (memory_no_device o e);
 }
 
-pub reports_at_device : (is_text is_short : List ℕ → List ℕ → Type 0) (o : JobEnd) (bytes : List ℕ) → o.status ≡ Device → ReportsAs is_text is_short o bytes
-reports_at_device is_text is_short o bytes d = record {
+pub reports_at_device : (pass : Bool) (is_text is_short : List ℕ → List ℕ → Type 0) (o : JobEnd) (bytes : List ℕ) → o.status ≡ Device → ReportsAs pass is_text is_short o bytes
+reports_at_device pass is_text is_short o bytes d = record {
   text = λ content. absurd (no_device o content d);
   good = λ e. absurd (no_device o (inl e) d);
   refused = λ e all. no_device o (inr e) d;
@@ -245,11 +217,11 @@ pub runs_as : (reports : JobEnd → List ℕ → Type 0) → AtDevice reports �
 runs_as reports at_device at_memory form o fault None long bad s = tt
 runs_as reports at_device at_memory form o fault (Some text) long bad s = runs_by reports at_device at_memory form o fault text (record { too_long = long; not_hexadecimal = bad }) s
 
-at_memory : (shape : Shape) → AtMemory (Reports shape)
-at_memory shape o bytes s = short_as (IsText shape) (IsCutShort shape) o bytes memory_line (short_at_once shape bytes) s
+at_memory : (shape : Shape) (pass : Bool) → AtMemory (Reports shape pass)
+at_memory shape pass o bytes s = short_as pass (IsText shape pass) (IsCutShort shape pass) o bytes memory_line (short_at_once shape pass bytes) s
 
-pub runs_refused : (shape : Shape) (form : Form) (o : JobEnd) (fault : InputFault) (known : Option (List ℕ)) → (fault ≡ fault_kind.TooLong → IfSome known (λ text. INPUT_LIMIT < length text))
+pub runs_refused : (shape : Shape) (pass : Bool) (form : Form) (o : JobEnd) (fault : InputFault) (known : Option (List ℕ)) → (fault ≡ fault_kind.TooLong → IfSome known (λ text. INPUT_LIMIT < length text))
     → (fault ≡ fault_kind.NotHexadecimal → IfSome known (λ text. (length text ≤ INPUT_LIMIT) × IsErr (stream_of form text))) → Answers fault o
-    → IfSome known (λ text. Runs shape form o text)
-runs_refused shape form o fault known long bad s =
-    runs_as (Reports shape) (reports_at_device (IsText shape) (IsCutShort shape)) (at_memory shape) form o fault known long bad s
+    → IfSome known (λ text. Runs shape form pass o text)
+runs_refused shape pass form o fault known long bad s =
+    runs_as (Reports shape pass) (reports_at_device pass (IsText shape pass) (IsCutShort shape pass)) (at_memory shape pass) form o fault known long bad s

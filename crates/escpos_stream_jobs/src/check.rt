@@ -4,35 +4,36 @@ ghost use Rattle.std.specs.Prelude.{◌≡◌, ◌≢◌, ◌⊎◌, ◌+◌, �
 ghost use Rattle.std.proofs.Common.{subst, sym, append-nil};
 ghost use Rattle.escpos_io.specs.Gather.{Carries};
 ghost use Rattle.escpos_stream_jobs.specs.declared.job.Obstacle.TheVariants as obstacle;
-ghost use Rattle.escpos_job_parts.specs.Lines.{command_lines};
 ghost use Rattle.escpos_job_parts.specs.Ending.{IsFair, job_end};
 ghost use Rattle.escpos_stream_jobs.specs.Obstacle.{memory_is_no_device};
-ghost use Rattle.escpos_stream_jobs.specs.Check.{Checks, listing_shape};
+ghost use Rattle.escpos_stream_jobs.specs.Check.{Checks, listing_shape, token_lines};
 
 use crate::job::{Job, Obstacle, run};
+use crate::passed_line::put_passed_line;
 use escpos_command::{Command, LineWidth};
-use escpos_decode::Consumer;
 use escpos_io::{ByteIn, ByteOut, Gather};
 use escpos_job_parts::form::Form;
 use escpos_job_parts::lines::{LINE_BYTES, Last, append_character, put_line};
 use escpos_job_parts::status::Status;
+use escpos_passed::{Row, TokenConsumer};
 use std::alloc::Global;
 
-/// Reads a stream in this form from `input` and lists its commands on `output`.
+/// Reads a stream in this form from `input` and lists its commands on `output`; with `pass` those too that are passed over.
 ///
 /// `run` says which status comes when. With `Memory` the line `memory` follows the lines of the commands so far.
 pub fn check<R: ByteIn, W: ByteOut>(
     alloc: Global,
     form: Form,
+    pass: bool,
     input: &mut R,
     output: &mut W,
 ) -> Status
-    ensures checks { IfSome (R.to_come input.old) (λ given. Checks form (job_end (W.written output.old) (W.written output.new) (W.failed output.new) result) given) }
+    ensures checks { IfSome (R.to_come input.old) (λ given. Checks form pass (job_end (W.written output.old) (W.written output.new) (W.failed output.new) result) given) }
     ensures fair { IsFair result (R.failed input.new) (W.failed output.old, W.failed output.new)
         (R.pull_count input.old, R.pull_count input.new) }
     ensures nothing_put { IsTrue (R.failed input.new) → output.new ≡ output.old }
 {
-    run::<R, W, Listing>(alloc, form, LineWidth::usual(), input, output)
+    run::<R, W, Listing>(alloc, form, pass, LineWidth::usual(), input, output)
 }
 
 // The lines that aren't printed yet.
@@ -41,12 +42,12 @@ struct Listing {
     gather: Gather,
 }
 
-impl<W: ByteOut> Consumer<W> for Listing {
+impl<W: ByteOut> TokenConsumer<W> for Listing {
     type Refusal = Obstacle;
 
-    ghost accepted = { λ start now cs.
+    ghost accepted = { λ start now ts.
         ((first : Option (List ℕ)) (total : List ℕ) → Carries first (W.written start.1) start.0.gather total
-        → Carries first (W.written now.1) now.0.gather (total ++ command_lines 0 cs))
+        → Carries first (W.written now.1) now.0.gather (total ++ token_lines 0 ts))
         × (¬ IsTrue (W.failed start.1) → ¬ IsTrue (W.failed now.1)) };
 
     ghost refused = { λ last now refusal. (refusal ≡ obstacle.Device) × IsTrue (W.failed now.1) };
@@ -64,6 +65,19 @@ impl<W: ByteOut> Consumer<W> for Listing {
         }
         append_character(&mut self.gather, place, text[0]);
         Ok(1)
+    }
+
+    fn pass(
+        &mut self,
+        row: &Row,
+        bytes: &[u8],
+        place: usize,
+        output: &mut W,
+    ) -> Result<(), Obstacle> {
+        match put_passed_line(&mut self.gather, place, row, bytes, output) {
+            Ok(()) => Ok(()),
+            Err(_) => Err(Obstacle::Device),
+        }
     }
 
     ghost nothing = { λ start. (
@@ -86,6 +100,11 @@ impl<W: ByteOut> Job<W> for Listing {
         }
     }
 
+    // Each has a line of its own.
+    fn told(_passed: usize) -> usize {
+        0
+    }
+
     fn last(count: usize, half: usize) -> Last {
         Last::End { count, half }
     }
@@ -94,11 +113,11 @@ impl<W: ByteOut> Job<W> for Listing {
         self.gather
     }
 
-    ghost carried = { λ width start now cs new taken. taken.0 (W.written start.1) [] (new (W.written start.1)) };
+    ghost carried = { λ width start now ts new taken. taken.0 (W.written start.1) [] (new (W.written start.1)) };
 
-    ghost well = { λ start now cs taken. taken.1 };
+    ghost well = { λ start now ts taken. taken.1 };
 
-    ghost no_memory = { λ start last now cs taken left. absurd (memory_is_no_device left.0) };
+    ghost no_memory = { λ start last now ts taken left. absurd (memory_is_no_device left.0) };
 
     ghost no_device = { λ last now left. left.1 };
 }

@@ -5,6 +5,7 @@ ghost use Rattle.std.specs.Prelude.{◌≡◌, ◌≢◌, ◌⊎◌, ◌+◌, �
 ghost use Rattle.std.proofs.Common.{ap, inl, inr, subst, sym, append-nil};
 ghost use Rattle.escpos_command.specs.declared.command.Command.{Command};
 ghost use Rattle.escpos_io.specs.Gather.{Carries};
+ghost use Rattle.escpos_passed.specs.Tokens.{commands_of};
 ghost use Rattle.escpos_paper.specs.Torn.{TornIs, bare};
 ghost use Rattle.escpos_paper.specs.declared.paper.TheConstants.{MOST_ITEMS};
 ghost use Rattle.escpos_stream_jobs.specs.declared.job.Obstacle.TheVariants as obstacle;
@@ -16,33 +17,35 @@ ghost use Rattle.escpos_stream_jobs.specs.Obstacle.{device_is_no_memory, memory_
 use crate::item_form::{ItemForm, Plain, Styled};
 use crate::job::{Job, Obstacle, run};
 use escpos_command::{Command, LineWidth};
-use escpos_decode::Consumer;
 use escpos_io::{ByteIn, ByteOut, Gather};
 use escpos_job_parts::form::Form;
 use escpos_job_parts::lines::Last;
 use escpos_job_parts::status::Status;
 use escpos_paper::{Item, Page};
+use escpos_passed::{Row, TokenConsumer};
 use std::alloc::Global;
 use std::marker::PhantomData;
 
 /// Reads a stream in this form from `input` and writes the paper that it prints, in lines of this width, to `output`, an item
-/// a line, and the last line of the listing after a fault or with a half command at the end.
+/// a line, and the last line of the listing after a fault or with a half command at the end. With `pass` commands whose length is
+/// known are passed over, and a line before the last one says how many were, if some.
 ///
 /// `run` says which status comes when. With `Memory` the line `memory` follows the items of the commands so far. No item is
 /// kept once the next command is read.
 pub fn render<R: ByteIn, W: ByteOut>(
     alloc: Global,
     form: Form,
+    pass: bool,
     width: LineWidth,
     input: &mut R,
     output: &mut W,
 ) -> Status
-    ensures renders { IfSome (R.to_come input.old) (λ given. Renders form width (job_end (W.written output.old) (W.written output.new) (W.failed output.new) result) given) }
+    ensures renders { IfSome (R.to_come input.old) (λ given. Renders form pass width (job_end (W.written output.old) (W.written output.new) (W.failed output.new) result) given) }
     ensures fair { IsFair result (R.failed input.new) (W.failed output.old, W.failed output.new)
         (R.pull_count input.old, R.pull_count input.new) }
     ensures nothing_put { IsTrue (R.failed input.new) → output.new ≡ output.old }
 {
-    run::<R, W, Rendering<Styled>>(alloc, form, width, input, output)
+    run::<R, W, Rendering<Styled>>(alloc, form, pass, width, input, output)
 }
 
 /// Reads a stream in this form from `input` and writes the paper that it prints, in lines of this width, to `output` as plain
@@ -50,16 +53,17 @@ pub fn render<R: ByteIn, W: ByteOut>(
 pub fn render_text<R: ByteIn, W: ByteOut>(
     alloc: Global,
     form: Form,
+    pass: bool,
     width: LineWidth,
     input: &mut R,
     output: &mut W,
 ) -> Status
-    ensures renders { IfSome (R.to_come input.old) (λ given. RendersText form width (job_end (W.written output.old) (W.written output.new) (W.failed output.new) result) given) }
+    ensures renders { IfSome (R.to_come input.old) (λ given. RendersText form pass width (job_end (W.written output.old) (W.written output.new) (W.failed output.new) result) given) }
     ensures fair { IsFair result (R.failed input.new) (W.failed output.old, W.failed output.new)
         (R.pull_count input.old, R.pull_count input.new) }
     ensures nothing_put { IsTrue (R.failed input.new) → output.new ≡ output.old }
 {
-    run::<R, W, Rendering<Plain>>(alloc, form, width, input, output)
+    run::<R, W, Rendering<Plain>>(alloc, form, pass, width, input, output)
 }
 
 // The paper that the commands so far have printed on, all of which is torn off, and the text of it, in the form `F`, that isn't
@@ -71,12 +75,12 @@ struct Rendering<F: ItemForm> {
     form: PhantomData<F>,
 }
 
-impl<F: ItemForm, W: ByteOut> Consumer<W> for Rendering<F> {
+impl<F: ItemForm, W: ByteOut> TokenConsumer<W> for Rendering<F> {
     type Refusal = Obstacle;
 
-    ghost accepted = { λ start now cs.
+    ghost accepted = { λ start now ts.
         ((width : ℕ) (first : Option (List ℕ)) (before : List Command) → IsRendered F.text width first (W.written start.1) start.0.gather start.0.page.sheet before
-        → IsRendered F.text width first (W.written now.1) now.0.gather now.0.page.sheet (before ++ cs))
+        → IsRendered F.text width first (W.written now.1) now.0.gather now.0.page.sheet (before ++ commands_of ts))
         × (¬ IsTrue (W.failed start.1) → ¬ IsTrue (W.failed now.1)) };
 
     ghost refused = { λ last now refusal.
@@ -100,6 +104,17 @@ impl<F: ItemForm, W: ByteOut> Consumer<W> for Rendering<F> {
         }
     }
 
+    // What it prints isn't known.
+    fn pass(
+        &mut self,
+        _row: &Row,
+        _bytes: &[u8],
+        _place: usize,
+        _output: &mut W,
+    ) -> Result<(), Obstacle> {
+        Ok(())
+    }
+
     ghost nothing = { λ start. (
       λ width first before is. subst (IsRendered F.text width first (W.written start.1) start.0.gather start.0.page.sheet) (sym (append-nil before)) is,
       λ well. well,
@@ -121,6 +136,10 @@ impl<F: ItemForm, W: ByteOut> Job<W> for Rendering<F> {
         }
     }
 
+    fn told(passed: usize) -> usize {
+        passed
+    }
+
     fn last(count: usize, half: usize) -> Last {
         if half == 0 {
             Last::Nothing
@@ -133,16 +152,16 @@ impl<F: ItemForm, W: ByteOut> Job<W> for Rendering<F> {
         self.gather
     }
 
-    ghost carried = { λ width start now cs new taken.
+    ghost carried = { λ width start now ts new taken.
         (taken.0 width (W.written start.1) [] (record { torn = ap (λ s. s.items) new.1; sheet_is = new.1; carried = new.0 (W.written start.1) })).carried };
 
-    ghost well = { λ start now cs taken. taken.1 };
+    ghost well = { λ start now ts taken. taken.1 };
 
-    ghost no_memory = { λ start last now cs taken left. elim left [
+    ghost no_memory = { λ start last now ts taken left. elim left [
       | inl same ↦ (
-        λ width first before is. subst (λ o. IsRendered F.text width first (W.written o) now.0.gather now.0.page.sheet (before ++ cs)) (sym same.2)
-            (subst (λ g. IsRendered F.text width first (W.written last.1) g now.0.page.sheet (before ++ cs)) (sym same.3)
-            (subst (λ s. IsRendered F.text width first (W.written last.1) last.0.gather s (before ++ cs)) (sym same.4) (taken.0 width first before is))),
+        λ width first before is. subst (λ o. IsRendered F.text width first (W.written o) now.0.gather now.0.page.sheet (before ++ commands_of ts)) (sym same.2)
+            (subst (λ g. IsRendered F.text width first (W.written last.1) g now.0.page.sheet (before ++ commands_of ts)) (sym same.3)
+            (subst (λ s. IsRendered F.text width first (W.written last.1) last.0.gather s (before ++ commands_of ts)) (sym same.4) (taken.0 width first before is))),
         λ well. subst (λ o. ¬ IsTrue (W.failed o)) (sym same.2) (taken.1 well),
       )
       | inr failed ↦ absurd (memory_is_no_device failed.0)

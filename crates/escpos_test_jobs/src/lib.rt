@@ -8,6 +8,7 @@ mod tasks;
 
 pub use jobs::{NoNetwork, Row, is_whole, performs, performs_rows, prints, run_job};
 pub use tasks::{
-    check_task, draw_task, encode_task, raw_check_task, raw_draw_task, raw_encode_task,
-    raw_render_task, raw_render_text_task, render_task, render_text_task,
+    check_task, draw_task, encode_task, passing_check_task, passing_draw_task, passing_render_task,
+    raw_check_task, raw_draw_task, raw_encode_task, raw_render_task, raw_render_text_task,
+    render_task, render_text_task,
 };

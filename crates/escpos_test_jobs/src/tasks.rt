@@ -9,18 +9,23 @@ use escpos_receipt::ReceiptOptions;
 pub fn check_task() -> Task {
     Task::Check {
         form: Form::Hexadecimal,
+        pass: false,
     }
 }
 
 /// `check --raw`.
 pub fn raw_check_task() -> Task {
-    Task::Check { form: Form::Raw }
+    Task::Check {
+        form: Form::Raw,
+        pass: false,
+    }
 }
 
 /// `render`.
 pub fn render_task() -> Task {
     Task::Render {
         form: Form::Hexadecimal,
+        pass: false,
         width: LineWidth::usual(),
     }
 }
@@ -29,6 +34,7 @@ pub fn render_task() -> Task {
 pub fn raw_render_task() -> Task {
     Task::Render {
         form: Form::Raw,
+        pass: false,
         width: LineWidth::usual(),
     }
 }
@@ -37,6 +43,7 @@ pub fn raw_render_task() -> Task {
 pub fn render_text_task() -> Task {
     Task::RenderText {
         form: Form::Hexadecimal,
+        pass: false,
         width: LineWidth::usual(),
     }
 }
@@ -45,6 +52,7 @@ pub fn render_text_task() -> Task {
 pub fn raw_render_text_task() -> Task {
     Task::RenderText {
         form: Form::Raw,
+        pass: false,
         width: LineWidth::usual(),
     }
 }
@@ -53,6 +61,7 @@ pub fn raw_render_text_task() -> Task {
 pub fn draw_task() -> Task {
     Task::Draw {
         form: Form::Hexadecimal,
+        pass: false,
         width: LineWidth::usual(),
     }
 }
@@ -61,6 +70,7 @@ pub fn draw_task() -> Task {
 pub fn raw_draw_task() -> Task {
     Task::Draw {
         form: Form::Raw,
+        pass: false,
         width: LineWidth::usual(),
     }
 }
@@ -78,5 +88,31 @@ pub fn raw_encode_task() -> Task {
     Task::Encode {
         form: Form::Raw,
         options: ReceiptOptions::usual(),
+    }
+}
+
+/// `check --raw --pass`.
+pub fn passing_check_task() -> Task {
+    Task::Check {
+        form: Form::Raw,
+        pass: true,
+    }
+}
+
+/// `render --raw --pass`.
+pub fn passing_render_task() -> Task {
+    Task::Render {
+        form: Form::Raw,
+        pass: true,
+        width: LineWidth::usual(),
+    }
+}
+
+/// `draw --raw --pass`.
+pub fn passing_draw_task() -> Task {
+    Task::Draw {
+        form: Form::Raw,
+        pass: true,
+        width: LineWidth::usual(),
     }
 }

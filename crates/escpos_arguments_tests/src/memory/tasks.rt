@@ -24,6 +24,7 @@ fn asks_at_last(rt: &impl Abort, alloc: Global, arguments: &[&str], wanted: Resu
 fn task_of_refused(rt: HostRuntime) {
     let check = Task::Check {
         form: Form::Hexadecimal,
+        pass: false,
     };
     asks_at_last(&rt, rt.alloc(), &["check"], Ok(check));
     asks_at_last(&rt, rt.alloc(), &["encode", "--help"], Err(NoTask::Help));

@@ -183,7 +183,7 @@ fn has_text(rt: &impl Abort, alloc: Global, stream: &[u8], wanted: &str) {
     let mut source = MemoryIn::new(stream, 4096);
     let mut sink = Outgoing::new(Vec::new(alloc));
     let (form, width) = (Form::Hexadecimal, LineWidth::usual());
-    assert!(rt; draw(alloc, form, width, &mut source, &mut sink) == Status::Good);
+    assert!(rt; draw(alloc, form, false, width, &mut source, &mut sink) == Status::Good);
     let out = sink.into_inner();
     let text = str::from_utf8(&out).expect(rt, "text");
     assert!(rt; text.contains(wanted), "{wanted}");

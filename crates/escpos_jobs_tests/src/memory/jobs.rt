@@ -131,21 +131,22 @@ enum Job {
     Perform(Named),
 }
 
-// Each job by its own call stands in a function of its own, so that `do_job` knows nothing of what the job's contract says.
+// Each job by its own call stands in a function of its own, so that `do_job` knows nothing of what the job's contract says. Those over
+// a stream may pass over commands, and meet none.
 fn checks(alloc: Global, form: Form, source: &mut MemoryIn, sink: &mut MemoryOut) -> Status {
-    check(alloc, form, source, sink)
+    check(alloc, form, true, source, sink)
 }
 
 fn renders(alloc: Global, form: Form, source: &mut MemoryIn, sink: &mut MemoryOut) -> Status {
-    render(alloc, form, LineWidth::usual(), source, sink)
+    render(alloc, form, true, LineWidth::usual(), source, sink)
 }
 
 fn renders_text(alloc: Global, form: Form, source: &mut MemoryIn, sink: &mut MemoryOut) -> Status {
-    render_text(alloc, form, LineWidth::usual(), source, sink)
+    render_text(alloc, form, true, LineWidth::usual(), source, sink)
 }
 
 fn draws(alloc: Global, form: Form, source: &mut MemoryIn, sink: &mut MemoryOut) -> Status {
-    draw(alloc, form, LineWidth::usual(), source, sink)
+    draw(alloc, form, true, LineWidth::usual(), source, sink)
 }
 
 fn encodes(alloc: Global, form: Form, source: &mut MemoryIn, sink: &mut MemoryOut) -> Status {

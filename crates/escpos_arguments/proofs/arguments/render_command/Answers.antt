@@ -5,9 +5,10 @@ use Rattle.escpos_arguments.proofs.arguments.render_command.Goals as goal
 
 pub returns : goal.returns
 returns c =
-    let app_is : app_of c.in_ok-command.command ≡ with_rule (with_rule (with_rule (new_app (codes "render")) (flag_rule (codes "raw"))) width_rule) (flag_rule (codes "text")) =
-    c.in_ok-command.ensures.shape c.flag-2.ensures.local
-    ∙ ap₂ with_rule (c.in_ok-arg-2.ensures.shape c.option.ensures.local
+    let app_is : app_of c.in_ok-command.command ≡ with_rule (with_rule (with_rule (with_rule (new_app (codes "render")) (flag_rule (codes "raw"))) (flag_rule (codes "pass"))) width_rule) (flag_rule (codes "text")) =
+    c.in_ok-command.ensures.shape c.flag-3.ensures.local
+    ∙ ap₂ with_rule (c.in_ok-arg-3.ensures.shape c.option.ensures.local
+    ∙ ap₂ with_rule (c.in_ok-arg-2.ensures.shape c.flag-2.ensures.local
     ∙ ap₂ with_rule (c.in_ok-arg.ensures.shape c.flag.ensures.local
-    ∙ ap₂ with_rule c.new.ensures.app c.flag.ensures.rule) c.option.ensures.rule) c.flag-2.ensures.rule in
+    ∙ ap₂ with_rule c.new.ensures.app c.flag.ensures.rule) c.flag-2.ensures.rule) c.option.ensures.rule) c.flag-3.ensures.rule in
     record { shape = ap (λ (a : App). a.top) app_is }

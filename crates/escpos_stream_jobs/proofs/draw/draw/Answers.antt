@@ -7,7 +7,7 @@ use Rattle.escpos_stream_jobs.proofs.draw.draw.Goals as goal
 
 pub returns-in-Err-clause-draws : goal.returns-in-Err-clause-draws
 returns-in-Err-clause-draws g c =
-    runs_as (Draws c.args.width) (reports_at_device (IsPicture c.args.width) (IsShortPicture c.args.width)) (draws_at_memory c.args.width) c.args.form _ c.in-Err.fault (g.R.ByteIn.to_come c.args.input.now)
+    runs_as (Draws c.args.width c.args.pass) (reports_at_device c.args.pass (IsPicture c.args.width c.args.pass) (IsShortPicture c.args.width c.args.pass)) (draws_at_memory c.args.width c.args.pass) c.args.form _ c.in-Err.fault (g.R.ByteIn.to_come c.args.input.now)
     (λ e. c.in-Err.ensures.too_long (ap Err e)) (λ e. c.in-Err.ensures.not_hexadecimal (ap Err e)) (record {
       too_long = c.refuse.ensures.too_long;
       not_hexadecimal = c.refuse.ensures.not_hexadecimal;

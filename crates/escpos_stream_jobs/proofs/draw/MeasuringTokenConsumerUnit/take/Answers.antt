@@ -1,0 +1,20 @@
+-- What a command prints is torn off, and passed.
+use Rattle.std.proofs.Common.{subst, ap, ◌∙◌, append_assoc, [], ◌∷◌, ◌++◌, sym}
+use Rattle.escpos_passed.specs.Tokens.{commands_of}
+use Rattle.escpos_stream_jobs.proofs.TokenCommands.{one_command_more}
+use Rattle.escpos_paper.specs.Printed.{printed}
+use Rattle.escpos_picture.specs.Places.{place_after_all}
+use Rattle.escpos_stream_jobs.specs.DrawSteps.{IsMeasured}
+use Rattle.escpos_job_parts.proofs.Successes.{succeeded}
+use Rattle.escpos_stream_jobs.proofs.Drawings.{measured_on}
+use Rattle.escpos_stream_jobs.proofs.draw.MeasuringTokenConsumerUnit.take.Goals as goal
+
+pub returns-clause-accepted : goal.returns-clause-accepted
+returns-clause-accepted c = λ start ts placed taken width before is.
+    let now = taken width before is in
+    let cs = commands_of ts in
+    let all = before ++ cs in
+    let next = succeeded c.apply.result c.if-is_err.ensures.value c.apply.ensures.torn width (printed width all) all now.sheet_is in
+    subst (IsMeasured width c.tear_off.new.self.sheet c.pass_all.new.self) (append_assoc before cs (c.args.command ∷ []) ∙ ap (λ v. before ++ v) (sym (one_command_more ts c.args.command)))
+    (measured_on width c.drawings_in_turn.ensures.places c.apply.new.self.sheet c.tear_off.new.self.sheet c.args.self.now.pen c.pass_all.new.self all (c.args.command ∷ [])
+    now.place_is next c.tear_off.ensures.torn (c.pass_all.ensures ∙ ap (place_after_all c.args.self.now.pen) c.items.ensures.items))

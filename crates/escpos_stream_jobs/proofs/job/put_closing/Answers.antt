@@ -1,0 +1,13 @@
+use Rattle.std.proofs.Common.{◌++◌, append_assoc, subst}
+use Rattle.escpos_io.specs.Gather.{Carries}
+use Rattle.escpos_job_parts.specs.LastText.{last_text}
+use Rattle.escpos_stream_jobs.specs.Report.{passed_text}
+use Rattle.escpos_stream_jobs.proofs.Drawings.{on_given}
+use Rattle.escpos_stream_jobs.proofs.job.put_closing.Goals as goal
+
+pub returns-clause-given : goal.returns-clause-given
+returns-clause-given g c = on_given c.put.result c.put.ensures.ok (λ ok first text carries.
+    let words = passed_text c.args.closing.passed in
+    let line = last_text c.args.closing.last in
+    subst (Carries first (g.W.ByteOut.written c.put.new.writer) c.put.new.gather) (append_assoc text words line)
+    (ok first (text ++ words) (c.in_ok-put_passed.ensures.ok first text carries)))

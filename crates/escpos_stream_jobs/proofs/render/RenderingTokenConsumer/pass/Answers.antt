@@ -1,0 +1,13 @@
+-- Nothing is printed.
+use Rattle.std.proofs.Common.{◌++◌, ap, subst, sym}
+use Rattle.escpos_stream_jobs.specs.RenderSteps.{IsRendered}
+use Rattle.escpos_stream_jobs.proofs.TokenCommands.{none_more}
+use Rattle.escpos_stream_jobs.proofs.render.RenderingTokenConsumer.pass.Goals as goal
+
+pub returns-clause-accepted : goal.returns-clause-accepted
+returns-clause-accepted g c = λ start ts i placed within is taken. (
+  λ width first before rendered.
+      subst (IsRendered g.F.ItemForm.text width first (g.W.ByteOut.written c.args._output.now) c.args.self.now.gather c.args.self.now.page.sheet) (ap (λ v. before ++ v) (sym (none_more ts i c.args._bytes.now)))
+      (taken.0 width first before rendered),
+  taken.1,
+)
