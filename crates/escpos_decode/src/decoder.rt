@@ -8,9 +8,9 @@ ghost use Rattle.std.specs.Prelude.{ℕ, List, ◌≡◌, ◌<◌, ◌≤◌, []
 ghost use Rattle.std.specs.List.{AllPass};
 ghost use Rattle.escpos_command.specs.Parameters.{is_character};
 ghost use Rattle.escpos_command.specs.declared.command.Command.{Command};
-ghost use Rattle.escpos_command.specs.declared.command.Command.TheVariants.{Char};
+ghost use Rattle.escpos_command.specs.declared.command.Command.TheVariants.{Char, Set};
 ghost use Rattle.escpos_command.specs.Grammar.{Reads};
-ghost use Rattle.escpos_command.specs.CommandTable.{IsCommand};
+ghost use Rattle.escpos_command.specs.CommandTable.{IsCommand, Spells};
 ghost use Rattle.escpos_command.specs.Laws.{longest_spelling};
 ghost use Rattle.escpos_command.specs.Places.{reason_after};
 ghost use Rattle.escpos_decode.specs.State.{NextIs, command_of, completed, has_content, holds};
@@ -19,7 +19,9 @@ ghost use Rattle.escpos_decode.specs.declared.decoder.DecodeFault.TheVariants.{M
 ghost use Rattle.escpos_decode.specs.declared.decoder.Step.TheVariants.{Done};
 
 use crate::state::{Ending, Next, State};
-use escpos_command::{Bars, Character, Command, FaultReason, QrData, Raster, laws};
+use escpos_command::{
+    Bars, Character, Command, FaultReason, QrData, Raster, Setting, SettingKind, laws,
+};
 use std::alloc::{AllocError, Global};
 use std::marker::Model;
 use std::mem;
@@ -186,6 +188,19 @@ impl Decoder {
         }
     }
 
+    /// The setting of two letters and a parameter at the start of `bytes`, if the decoder is between commands. Its three bytes need not
+    /// be pushed: they leave the decoder as it is. Most commands of a receipt are such settings.
+    #[inline]
+    pub fn setting(&self, bytes: &[u8]) -> Option<Setting>
+        ensures between { IfSome result (λ setting. self.now ≡ []) }
+        ensures spelled { IfSome result (λ setting. (3 ≤ length bytes.now) × Spells (Set setting) (take 3 bytes.now)) }
+    {
+        match self.state {
+            State::Start => leading_setting(bytes),
+            _ => None,
+        }
+    }
+
     /// Takes the dots of a raster at the start of `bytes`, all but the raster's last byte, and returns how many bytes it
     /// took: 0 where the half command has no dots to come, or only one byte of them. No such byte is refused or ends a
     /// command. Allocates nothing.
@@ -314,9 +329,25 @@ impl Decoder {
     }
 }
 
-// Where the byte leads from this state and content: what was looked up, if it was this byte. Nothing is kept of that.
+// Where the byte leads from this state and content. Nothing is kept of what was looked up. A reader looks at no byte, and nothing
+// is moved for it.
 #[inline]
 fn led_to(looked: &mut Option<Look>, state: State, content: &[u8], byte: u8) -> Next
+    requires held { IsTrue (holds state) }
+    requires empty { has_content state ≡ false → content.now ≡ [] }
+    requires looked { IfSome looked.old (λ look. NextIs look.next state content.now look.byte) }
+    ensures next { NextIs result state content.now byte }
+    ensures none { looked.new ≡ None }
+{
+    if looked.is_none() {
+        return state.next(content, byte);
+    }
+    led_after_look(looked, state, content, byte)
+}
+
+// The same: what was looked up, if it was this byte.
+#[inline(never)]
+fn led_after_look(looked: &mut Option<Look>, state: State, content: &[u8], byte: u8) -> Next
     requires held { IsTrue (holds state) }
     requires empty { has_content state ≡ false → content.now ≡ [] }
     requires looked { IfSome looked.old (λ look. NextIs look.next state content.now look.byte) }
@@ -338,6 +369,20 @@ fn leading_characters(bytes: &[u8]) -> usize
     match bytes.iter().position(|byte| !is_character(*byte)) {
         Some(count) => count,
         None => bytes.len(),
+    }
+}
+
+// The setting of two letters and a parameter at the start of `bytes`.
+#[inline]
+fn leading_setting(bytes: &[u8]) -> Option<Setting>
+    ensures spelled { IfSome result (λ setting. (3 ≤ length bytes.now) × Spells (Set setting) (take 3 bytes.now)) }
+{
+    if bytes.len() < 3 {
+        return None;
+    }
+    match SettingKind::with_prefix(bytes[0], bytes[1], None) {
+        Some(kind) => Setting::new(kind, Some(bytes[2])),
+        None => None,
     }
 }
 
@@ -365,6 +410,7 @@ fn completed(next: &Next) -> Ahead
 }
 
 // The command of a content that has ended. It takes the content, and none is left.
+#[inline(never)]
 fn end(content: &mut Vec<u8>, ending: Ending, alloc: Global) -> Command
     requires { IsCommand (command_of ending content.old.items) }
     ensures command { result ≡ command_of ending content.old.items }

@@ -1,4 +1,5 @@
 pub mod DigitPairs
+pub mod DigitsKept
 pub mod CheckDigits
 pub mod RealTimeNotes
 pub mod Successes

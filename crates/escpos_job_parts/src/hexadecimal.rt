@@ -45,6 +45,12 @@ pub fn bytes_of(mut text: Vec<u8>) -> Result<Vec<u8>, NotHexadecimal>
     let mut read = 0;
     let mut written = 0;
     loop {
+        if let Some(byte) = side_by_side(&text, read) {
+            text[written] = byte;
+            written += 1;
+            read += 2;
+            continue;
+        }
         match next_byte(&text, read) {
             Ok(Some((byte, after))) => {
                 text[written] = byte;
@@ -59,22 +65,30 @@ pub fn bytes_of(mut text: Vec<u8>) -> Result<Vec<u8>, NotHexadecimal>
     Ok(text)
 }
 
-// The byte of the next two digits and the place after them, from the place `from` on; nothing if only blanks are left.
+// The byte of the two digits that stand at the place `from`, side by side. Nearly everywhere they do.
 #[inline]
+fn side_by_side(text: &[u8], from: usize) -> Option<u8>
+    requires { from ≤ length text.now }
+    ensures { IfSome result (λ byte. (from + 2 ≤ length text.now) × IsPair byte (digits_of (drop from text.now)) (digits_of (drop (from + 2) text.now))) }
+{
+    if from + 1 < text.len() {
+        let high = value_of(text[from]);
+        let low = value_of(text[from + 1]);
+        if high <= 15 && low <= 15 {
+            return Some(high * 16 + low);
+        }
+    }
+    None
+}
+
+// The byte of the next two digits and the place after them, from the place `from` on; nothing if only blanks are left.
+#[inline(never)]
 fn next_byte(text: &[u8], from: usize) -> Result<Option<(u8, usize)>, NotHexadecimal>
     requires { from ≤ length text.now }
     ensures byte { IfOk result (λ next. IfSome next (λ found. (from < found.1) × (found.1 ≤ length text.now) × IsPair found.0 (digits_of (drop from text.now)) (digits_of (drop found.1 text.now)))) }
     ensures none { result ≡ Ok None → digits_of (drop from text.now) ≡ [] }
     ensures refused { IsErr result → IsErr (decode_of (digits_of (drop from text.now))) }
 {
-    // Nearly everywhere two digits stand side by side.
-    if from + 1 < text.len() {
-        let high = value_of(text[from]);
-        let low = value_of(text[from + 1]);
-        if high <= 15 && low <= 15 {
-            return Ok(Some((high * 16 + low, from + 2)));
-        }
-    }
     let Some((high, after_high)) = next_digit(text, from) else {
         return Ok(None);
     };

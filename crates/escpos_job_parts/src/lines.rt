@@ -1,6 +1,6 @@
 //! The lines of a listing, appended to the bytes that a gather keeps back.
 
-ghost use Rattle.std.specs.Prelude.{◌≡◌, ◌≢◌, ◌+◌, ◌≤◌, ◌++◌, ◌∷◌, ℕ, List, length, codes, decimal};
+ghost use Rattle.std.specs.Prelude.{◌≡◌, ◌≢◌, ◌+◌, ◌/◌, ◌≤◌, ◌++◌, ◌∷◌, ℕ, List, length, codes, decimal};
 ghost use Rattle.std.specs.List.{flat_map};
 ghost use Rattle.escpos_job_parts.specs.Lines.{byte_value, command_line, end_line, fault_line, own_line, values_of, word_of};
 ghost use Rattle.escpos_job_parts.specs.LastText.{last_text};
@@ -12,6 +12,7 @@ ghost use Rattle.hex.specs.Hex.{encode_lower};
 
 use crate::ending::MEMORY;
 use crate::notes::{WrongDigit, wrong_digit};
+use crate::places::PlaceText;
 use crate::real_time::put_note;
 use escpos_command::{Bars, Command, FaultReason, LF, QrData, Raster};
 use escpos_io::{
@@ -143,12 +144,13 @@ fn append_line(gather: &mut Gather, place: usize, command: &Command)
 }
 
 /// Appends the line of a character that has `place` bytes before it.
-pub fn append_character(gather: &mut Gather, place: usize, byte: u8)
+pub fn append_character(gather: &mut Gather, places: &mut PlaceText, place: usize, byte: u8)
     requires { length gather.old.kept + LINE_BYTES ≤ GATHERED_BYTES }
     ensures kept { gather.new.kept ≡ gather.old.kept ++ command_line place (kind.Char byte) }
     ensures same_count { gather.new.written ≡ gather.old.written }
+    ensures last { places.new ≡ place / 10 }
 {
-    append_number(gather, place);
+    places.append(gather, place);
     gather.extend(b" char");
     append_byte(gather, byte);
     gather.push(LF);

@@ -183,7 +183,8 @@ impl Paper {
         ensures store { self.new.store ≡ self.old.store }
         ensures line { self.new.line ≡ [] }
     {
-        self.feed(Item::Feed {
+        print_line(&mut self.items, &mut self.line, self.settings.lines);
+        self.items.push_reserved(Item::Feed {
             lines,
             spacing: self.settings.lines.spacing,
         });
@@ -200,22 +201,8 @@ impl Paper {
         ensures store { self.new.store ≡ self.old.store }
         ensures line { self.new.line ≡ [] }
     {
-        self.feed(Item::FeedUnits(units));
-    }
-
-    // Prints the line and then a feed.
-    #[inline]
-    fn feed(&mut self, feed: Item)
-        requires { vec_len self.old.items + 2 ≤ vec_capacity self.old.items }
-        ensures items { self.new.items.items
-            ≡ self.old.items.items ++ row_of self.old.settings.lines self.old.line ++ feed ∷ [] }
-        ensures line_width { self.new.line_width ≡ self.old.line_width }
-        ensures settings { self.new.settings ≡ self.old.settings }
-        ensures store { self.new.store ≡ self.old.store }
-        ensures line { self.new.line ≡ [] }
-    {
         print_line(&mut self.items, &mut self.line, self.settings.lines);
-        self.items.push_reserved(feed);
+        self.items.push_reserved(Item::FeedUnits(units));
     }
 
     // Ends the line and prints a barcode.

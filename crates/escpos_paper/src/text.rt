@@ -9,7 +9,7 @@ ghost use Rattle.escpos_command.specs.QrCodes.{most_qr_data};
 ghost use Rattle.escpos_io.specs.Giving.{IsGiven};
 ghost use Rattle.escpos_io.specs.Putting.{passage};
 ghost use Rattle.escpos_paper.specs.Styles.{power_on};
-ghost use Rattle.escpos_paper.specs.ItemsText.{spacing_field, byte_text, style_text, face_name, flag_text, six_fields, has_six_fields, further_fields, cell_text, cells_text, align_name, symbology_name, place_name, scale_name, settings_text, content_text, correction_name, cut_name, upside_text, spacing_text, item_text};
+ghost use Rattle.escpos_paper.specs.ItemsText.{spacing_field, is_plain, byte_text, style_text, face_name, flag_text, six_fields, has_six_fields, further_fields, cell_text, cells_text, align_name, symbology_name, place_name, scale_name, settings_text, content_text, correction_name, cut_name, upside_text, spacing_text, item_text};
 ghost use Rattle.escpos_paper.specs.ItemParts.{front, dots_of, characters_of};
 
 use crate::cell::{Cell, Cells};
@@ -450,11 +450,42 @@ fn append_byte(gather: &mut Gather, byte: u8)
     ensures same_count { gather.new.written ≡ gather.old.written }
     ensures short { length (byte_text byte) ≤ 3 }
 {
-    if matches!(byte, 0x20..=0x7E) && byte != b'[' && byte != b'\\' {
+    if is_plain(byte) {
         gather.push(byte);
     } else {
         append_escaped(gather, byte);
     }
+}
+
+// Whether each byte stands as itself.
+static PLAIN: [bool; 256] = [
+    false, false, false, false, false, false, false, false, false, false, false, false, false,
+    false, false, false, false, false, false, false, false, false, false, false, false, false,
+    false, false, false, false, false, false, true, true, true, true, true, true, true, true, true,
+    true, true, true, true, true, true, true, true, true, true, true, true, true, true, true, true,
+    true, true, true, true, true, true, true, true, true, true, true, true, true, true, true, true,
+    true, true, true, true, true, true, true, true, true, true, true, true, true, true, true, true,
+    true, true, false, false, true, true, true, true, true, true, true, true, true, true, true,
+    true, true, true, true, true, true, true, true, true, true, true, true, true, true, true, true,
+    true, true, true, true, true, true, true, false, false, false, false, false, false, false,
+    false, false, false, false, false, false, false, false, false, false, false, false, false,
+    false, false, false, false, false, false, false, false, false, false, false, false, false,
+    false, false, false, false, false, false, false, false, false, false, false, false, false,
+    false, false, false, false, false, false, false, false, false, false, false, false, false,
+    false, false, false, false, false, false, false, false, false, false, false, false, false,
+    false, false, false, false, false, false, false, false, false, false, false, false, false,
+    false, false, false, false, false, false, false, false, false, false, false, false, false,
+    false, false, false, false, false, false, false, false, false, false, false, false, false,
+    false, false, false, false, false, false, false, false, false, false, false, false, false,
+    false, false, false, false, false,
+];
+
+// Whether a byte stands as itself: one that can be printed, but for [ and \.
+#[inline]
+fn is_plain(byte: u8) -> bool
+    ensures { result ≡ is_plain byte }
+{
+    PLAIN[byte as usize]
 }
 
 // Appends \ and two hexadecimal digits.

@@ -201,6 +201,36 @@ turn_refused pass accepted bytes rest at start count c h t s =
     let done = turn_done pass accepted (λ ts. Unit {0}) bytes rest [] at start count (at + 1) c h t s refl (λ ts placed taken. tt) refl in
     (t.tokens, turn_reads pass (λ ts. Unit {0}) (take (at + 1) bytes) [] (at + 1) count done, t.all_accepted)
 
+-- ## A setting
+
+abbrev pub turn_setting : (pass : Bool) (accepted next : List Token → Type 0) (bytes rest : List ℕ) (at n most start count then_start : ℕ) (c : Command) → at + n ≤ length bytes → n ≤ most
+    → rest ≡ [] → Turn pass accepted (take at bytes) rest start count → Spells c (take n (take most (drop at bytes)))
+    → ((ts : List Token) → start ≡ length (spell_tokens ts) → accepted ts → next (ts ++ taken c ∷ [])) → then_start ≡ at + n
+    → Turn pass next (take (at + n) bytes) rest then_start count
+turn_setting pass accepted next bytes rest at n most start count then_start c inside few none t s take_it place =
+    let ts = t.tokens in
+    let whole : take (at + n) bytes ≡ spell_tokens (ts ++ taken c ∷ []) =
+    take-add at n bytes ∙ ap (λ v. take at bytes ++ v) (sym (take-take n most (drop at bytes) few) ∙ s.in_table)
+    ∙ ap (λ v. v ++ row c) (t.whole ∙ ap (λ v. spell_tokens ts ++ v) none ∙ append-nil (spell_tokens ts)) ∙ sym (longer ts (taken c)) in
+    let long = ap length whole in
+    record {
+      tokens = ts ++ taken c ∷ [];
+      all = all_tokens ts (taken c ∷ []) t.all (s.in_range, tt);
+      whole = whole ∙ sym (append-nil (spell_tokens (ts ++ taken c ∷ []))) ∙ ap (λ v. spell_tokens (ts ++ taken c ∷ []) ++ v) (sym none);
+      rest_is = inl none;
+      all_accepted = take_it ts t.placed t.all_accepted;
+      placed = omega (arith, place, long, short_of bytes (at + n) inside);
+      counted = t.counted ∙ sym (count_taken ts c);
+      plain = plain_more pass ts (c ∷ []) (s.in_range, tt) t.plain;
+    }
+
+-- It isn't taken.
+pub turn_setting_refused : (pass : Bool) (accepted : List Token → Type 0) (bytes rest : List ℕ) (at n most start count : ℕ) (c : Command) → at + n ≤ length bytes → n ≤ most
+    → rest ≡ [] → Turn pass accepted (take at bytes) rest start count → Spells c (take n (take most (drop at bytes))) → EndsWith pass (taken c) accepted (take (at + n) bytes)
+turn_setting_refused pass accepted bytes rest at n most start count c inside few none t s =
+    let done = turn_setting pass accepted (λ ts. Unit {0}) bytes rest at n most start count (at + n) c inside few none t s (λ ts placed taken. tt) refl in
+    (t.tokens, subst (λ v. ReadsWith pass (take (at + n) bytes) (t.tokens ++ taken c ∷ []) v) none (turn_reads pass (λ ts. Unit {0}) (take (at + n) bytes) rest (at + n) count done), t.all_accepted)
+
 -- ## Characters
 
 pub same_text : (text : List ℕ) → spell_tokens (text_tokens text) ≡ text

@@ -118,6 +118,14 @@ pub fn read_tokens<W, C: TokenConsumer<W>>(
             start = at;
             continue;
         }
+        if let Some(setting) = decoder.setting(&bytes[at..]) {
+            if let Err(refusal) = consumer.take(Command::Set(setting), start, output) {
+                return Err(Stop::Refused(refusal));
+            }
+            at += 3;
+            start = at;
+            continue;
+        }
         match decoder.push(bytes[at]) {
             Ok(Step::More) => {
                 at += 1;

@@ -84,792 +84,242 @@ const COUNT_BYTE: Counted = Counted {
 /// How many rows there are.
 pub const COUNT: usize = 125;
 
+// A row for each line: its prefix, how the length of what follows is told, and the third byte with which it isn't the command.
+macro_rules! rows {
+    ($($prefix:expr, $form:expr, $except:expr;)*) => {
+        [$(Row { prefix: $prefix, form: $form, except: $except }),*]
+    };
+}
+
 /// The table, in the order of the prefixes.
-pub const TABLE: [Row; COUNT] = [
+pub const TABLE: [Row; COUNT] = rows! {
     // HT
-    Row {
-        prefix: Prefix::One(0x09),
-        form: Form::Fixed(0),
-        except: None,
-    },
+    Prefix::One(0x09), Form::Fixed(0), None;
     // FF
-    Row {
-        prefix: Prefix::One(0x0C),
-        form: Form::Fixed(0),
-        except: None,
-    },
+    Prefix::One(0x0C), Form::Fixed(0), None;
     // DLE EOT
-    Row {
-        prefix: Prefix::With(DLE, 0x04, 0x05),
-        form: Form::Fixed(0),
-        except: None,
-    },
-    // DLE EOT
-    Row {
-        prefix: Prefix::With(DLE, 0x04, 0x06),
-        form: Form::Fixed(0),
-        except: None,
-    },
-    // DLE EOT
-    Row {
-        prefix: Prefix::With(DLE, 0x04, 0x07),
-        form: Form::Fixed(1),
-        except: None,
-    },
-    // DLE EOT
-    Row {
-        prefix: Prefix::With(DLE, 0x04, 0x08),
-        form: Form::Fixed(1),
-        except: None,
-    },
+    Prefix::With(DLE, 0x04, 0x05), Form::Fixed(0), None;
+    Prefix::With(DLE, 0x04, 0x06), Form::Fixed(0), None;
+    Prefix::With(DLE, 0x04, 0x07), Form::Fixed(1), None;
+    Prefix::With(DLE, 0x04, 0x08), Form::Fixed(1), None;
     // DLE ENQ
-    Row {
-        prefix: Prefix::Two(DLE, 0x05),
-        form: Form::Fixed(1),
-        except: None,
-    },
+    Prefix::Two(DLE, 0x05), Form::Fixed(1), None;
     // DLE DC4
-    Row {
-        prefix: Prefix::With(DLE, 0x14, 0x01),
-        form: Form::Fixed(2),
-        except: None,
-    },
-    // DLE DC4
-    Row {
-        prefix: Prefix::With(DLE, 0x14, 0x02),
-        form: Form::Fixed(2),
-        except: None,
-    },
-    // DLE DC4
-    Row {
-        prefix: Prefix::With(DLE, 0x14, 0x03),
-        form: Form::Fixed(5),
-        except: None,
-    },
-    // DLE DC4
-    Row {
-        prefix: Prefix::With(DLE, 0x14, 0x07),
-        form: Form::Fixed(1),
-        except: None,
-    },
-    // DLE DC4
-    Row {
-        prefix: Prefix::With(DLE, 0x14, 0x08),
-        form: Form::Fixed(7),
-        except: None,
-    },
+    Prefix::With(DLE, 0x14, 0x01), Form::Fixed(2), None;
+    Prefix::With(DLE, 0x14, 0x02), Form::Fixed(2), None;
+    Prefix::With(DLE, 0x14, 0x03), Form::Fixed(5), None;
+    Prefix::With(DLE, 0x14, 0x07), Form::Fixed(1), None;
+    Prefix::With(DLE, 0x14, 0x08), Form::Fixed(7), None;
     // CAN
-    Row {
-        prefix: Prefix::One(0x18),
-        form: Form::Fixed(0),
-        except: None,
-    },
+    Prefix::One(0x18), Form::Fixed(0), None;
     // ESC FF
-    Row {
-        prefix: Prefix::Two(ESC, 0x0C),
-        form: Form::Fixed(0),
-        except: None,
-    },
+    Prefix::Two(ESC, 0x0C), Form::Fixed(0), None;
     // ESC $
-    Row {
-        prefix: Prefix::Two(ESC, b'$'),
-        form: Form::Fixed(2),
-        except: None,
-    },
+    Prefix::Two(ESC, b'$'), Form::Fixed(2), None;
     // ESC %
-    Row {
-        prefix: Prefix::Two(ESC, b'%'),
-        form: Form::Fixed(1),
-        except: None,
-    },
+    Prefix::Two(ESC, b'%'), Form::Fixed(1), None;
     // ESC &
-    Row {
-        prefix: Prefix::Two(ESC, b'&'),
-        form: Form::Characters,
-        except: None,
-    },
+    Prefix::Two(ESC, b'&'), Form::Characters, None;
     // ESC ( A
-    Row {
-        prefix: Prefix::Three(ESC, b'(', b'A'),
-        form: Form::Counted(LOW_AND_HIGH),
-        except: None,
-    },
+    Prefix::Three(ESC, b'(', b'A'), Form::Counted(LOW_AND_HIGH), None;
     // ESC ( Y
-    Row {
-        prefix: Prefix::Three(ESC, b'(', b'Y'),
-        form: Form::Counted(LOW_AND_HIGH),
-        except: None,
-    },
+    Prefix::Three(ESC, b'(', b'Y'), Form::Counted(LOW_AND_HIGH), None;
     // ESC *
-    Row {
-        prefix: Prefix::With(ESC, b'*', 0x00),
-        form: Form::Counted(LOW_AND_HIGH),
-        except: None,
-    },
-    // ESC *
-    Row {
-        prefix: Prefix::With(ESC, b'*', 0x01),
-        form: Form::Counted(LOW_AND_HIGH),
-        except: None,
-    },
-    // ESC *
-    Row {
-        prefix: Prefix::With(ESC, b'*', 0x20),
-        form: Form::Counted(Counted {
-            before: 2,
-            number: Number::Word(0),
-            again: None,
-            unit: 3,
-        }),
-        except: None,
-    },
-    // ESC *
-    Row {
-        prefix: Prefix::With(ESC, b'*', 0x21),
-        form: Form::Counted(Counted {
-            before: 2,
-            number: Number::Word(0),
-            again: None,
-            unit: 3,
-        }),
-        except: None,
-    },
+    Prefix::With(ESC, b'*', 0x00), Form::Counted(LOW_AND_HIGH), None;
+    Prefix::With(ESC, b'*', 0x01), Form::Counted(LOW_AND_HIGH), None;
+    Prefix::With(ESC, b'*', 0x20), Form::Counted(Counted { before: 2, number: Number::Word(0), again: None, unit: 3 }), None;
+    Prefix::With(ESC, b'*', 0x21), Form::Counted(Counted { before: 2, number: Number::Word(0), again: None, unit: 3 }), None;
     // ESC +
-    Row {
-        prefix: Prefix::Two(ESC, b'+'),
-        form: Form::Fixed(1),
-        except: None,
-    },
+    Prefix::Two(ESC, b'+'), Form::Fixed(1), None;
     // ESC ?
-    Row {
-        prefix: Prefix::Two(ESC, b'?'),
-        form: Form::Fixed(1),
-        except: None,
-    },
+    Prefix::Two(ESC, b'?'), Form::Fixed(1), None;
     // ESC A
-    Row {
-        prefix: Prefix::Two(ESC, b'A'),
-        form: Form::Fixed(1),
-        except: None,
-    },
+    Prefix::Two(ESC, b'A'), Form::Fixed(1), None;
     // ESC B
-    Row {
-        prefix: Prefix::Two(ESC, b'B'),
-        form: Form::Fixed(2),
-        except: None,
-    },
+    Prefix::Two(ESC, b'B'), Form::Fixed(2), None;
     // ESC D
-    Row {
-        prefix: Prefix::Two(ESC, b'D'),
-        form: Form::Until { end: 0, times: 1 },
-        except: None,
-    },
+    Prefix::Two(ESC, b'D'), Form::Until { end: 0, times: 1 }, None;
     // ESC K
-    Row {
-        prefix: Prefix::Two(ESC, b'K'),
-        form: Form::Fixed(1),
-        except: None,
-    },
+    Prefix::Two(ESC, b'K'), Form::Fixed(1), None;
     // ESC L
-    Row {
-        prefix: Prefix::Two(ESC, b'L'),
-        form: Form::Fixed(0),
-        except: None,
-    },
+    Prefix::Two(ESC, b'L'), Form::Fixed(0), None;
     // ESC Q
-    Row {
-        prefix: Prefix::Two(ESC, b'Q'),
-        form: Form::Fixed(1),
-        except: None,
-    },
+    Prefix::Two(ESC, b'Q'), Form::Fixed(1), None;
     // ESC S
-    Row {
-        prefix: Prefix::Two(ESC, b'S'),
-        form: Form::Fixed(0),
-        except: None,
-    },
+    Prefix::Two(ESC, b'S'), Form::Fixed(0), None;
     // ESC T
-    Row {
-        prefix: Prefix::Two(ESC, b'T'),
-        form: Form::Fixed(1),
-        except: None,
-    },
+    Prefix::Two(ESC, b'T'), Form::Fixed(1), None;
     // ESC V
-    Row {
-        prefix: Prefix::Two(ESC, b'V'),
-        form: Form::Fixed(1),
-        except: None,
-    },
+    Prefix::Two(ESC, b'V'), Form::Fixed(1), None;
     // ESC W
-    Row {
-        prefix: Prefix::Two(ESC, b'W'),
-        form: Form::Fixed(8),
-        except: None,
-    },
+    Prefix::Two(ESC, b'W'), Form::Fixed(8), None;
     // ESC \
-    Row {
-        prefix: Prefix::Two(ESC, b'\\'),
-        form: Form::Fixed(2),
-        except: None,
-    },
+    Prefix::Two(ESC, b'\\'), Form::Fixed(2), None;
     // ESC c 0
-    Row {
-        prefix: Prefix::Three(ESC, b'c', b'0'),
-        form: Form::Fixed(1),
-        except: None,
-    },
+    Prefix::Three(ESC, b'c', b'0'), Form::Fixed(1), None;
     // ESC c 1
-    Row {
-        prefix: Prefix::Three(ESC, b'c', b'1'),
-        form: Form::Fixed(1),
-        except: None,
-    },
+    Prefix::Three(ESC, b'c', b'1'), Form::Fixed(1), None;
     // ESC e
-    Row {
-        prefix: Prefix::Two(ESC, b'e'),
-        form: Form::Fixed(1),
-        except: None,
-    },
+    Prefix::Two(ESC, b'e'), Form::Fixed(1), None;
     // ESC f
-    Row {
-        prefix: Prefix::Two(ESC, b'f'),
-        form: Form::Fixed(2),
-        except: None,
-    },
+    Prefix::Two(ESC, b'f'), Form::Fixed(2), None;
     // ESC i
-    Row {
-        prefix: Prefix::Two(ESC, b'i'),
-        form: Form::Fixed(0),
-        except: None,
-    },
+    Prefix::Two(ESC, b'i'), Form::Fixed(0), None;
     // ESC l
-    Row {
-        prefix: Prefix::Two(ESC, b'l'),
-        form: Form::Fixed(1),
-        except: None,
-    },
+    Prefix::Two(ESC, b'l'), Form::Fixed(1), None;
     // ESC m
-    Row {
-        prefix: Prefix::Two(ESC, b'm'),
-        form: Form::Fixed(0),
-        except: None,
-    },
+    Prefix::Two(ESC, b'm'), Form::Fixed(0), None;
     // ESC q
-    Row {
-        prefix: Prefix::Two(ESC, b'q'),
-        form: Form::Fixed(0),
-        except: None,
-    },
+    Prefix::Two(ESC, b'q'), Form::Fixed(0), None;
     // ESC r
-    Row {
-        prefix: Prefix::Two(ESC, b'r'),
-        form: Form::Fixed(1),
-        except: None,
-    },
+    Prefix::Two(ESC, b'r'), Form::Fixed(1), None;
     // ESC u
-    Row {
-        prefix: Prefix::Two(ESC, b'u'),
-        form: Form::Fixed(1),
-        except: None,
-    },
+    Prefix::Two(ESC, b'u'), Form::Fixed(1), None;
     // ESC v
-    Row {
-        prefix: Prefix::Two(ESC, b'v'),
-        form: Form::Fixed(0),
-        except: None,
-    },
+    Prefix::Two(ESC, b'v'), Form::Fixed(0), None;
     // FS !
-    Row {
-        prefix: Prefix::Two(FS, b'!'),
-        form: Form::Fixed(1),
-        except: None,
-    },
+    Prefix::Two(FS, b'!'), Form::Fixed(1), None;
     // FS &
-    Row {
-        prefix: Prefix::Two(FS, b'&'),
-        form: Form::Fixed(0),
-        except: None,
-    },
+    Prefix::Two(FS, b'&'), Form::Fixed(0), None;
     // FS ( A
-    Row {
-        prefix: Prefix::Three(FS, b'(', b'A'),
-        form: Form::Counted(LOW_AND_HIGH),
-        except: None,
-    },
+    Prefix::Three(FS, b'(', b'A'), Form::Counted(LOW_AND_HIGH), None;
     // FS ( C
-    Row {
-        prefix: Prefix::Three(FS, b'(', b'C'),
-        form: Form::Counted(LOW_AND_HIGH),
-        except: None,
-    },
+    Prefix::Three(FS, b'(', b'C'), Form::Counted(LOW_AND_HIGH), None;
     // FS ( E
-    Row {
-        prefix: Prefix::Three(FS, b'(', b'E'),
-        form: Form::Counted(LOW_AND_HIGH),
-        except: None,
-    },
+    Prefix::Three(FS, b'(', b'E'), Form::Counted(LOW_AND_HIGH), None;
     // FS ( L
-    Row {
-        prefix: Prefix::Three(FS, b'(', b'L'),
-        form: Form::Counted(LOW_AND_HIGH),
-        except: None,
-    },
+    Prefix::Three(FS, b'(', b'L'), Form::Counted(LOW_AND_HIGH), None;
     // FS ( e
-    Row {
-        prefix: Prefix::Three(FS, b'(', b'e'),
-        form: Form::Counted(LOW_AND_HIGH),
-        except: None,
-    },
+    Prefix::Three(FS, b'(', b'e'), Form::Counted(LOW_AND_HIGH), None;
     // FS ( f
-    Row {
-        prefix: Prefix::Three(FS, b'(', b'f'),
-        form: Form::Counted(LOW_AND_HIGH),
-        except: None,
-    },
+    Prefix::Three(FS, b'(', b'f'), Form::Counted(LOW_AND_HIGH), None;
     // FS ( g
-    Row {
-        prefix: Prefix::Three(FS, b'(', b'g'),
-        form: Form::Counted(LOW_AND_HIGH),
-        except: None,
-    },
+    Prefix::Three(FS, b'(', b'g'), Form::Counted(LOW_AND_HIGH), None;
     // FS -
-    Row {
-        prefix: Prefix::Two(FS, b'-'),
-        form: Form::Fixed(1),
-        except: None,
-    },
+    Prefix::Two(FS, b'-'), Form::Fixed(1), None;
     // FS 2
-    Row {
-        prefix: Prefix::Two(FS, b'2'),
-        form: Form::Fixed(74),
-        except: None,
-    },
+    Prefix::Two(FS, b'2'), Form::Fixed(74), None;
     // FS ?
-    Row {
-        prefix: Prefix::Two(FS, b'?'),
-        form: Form::Fixed(2),
-        except: None,
-    },
+    Prefix::Two(FS, b'?'), Form::Fixed(2), None;
     // FS C
-    Row {
-        prefix: Prefix::Two(FS, b'C'),
-        form: Form::Fixed(1),
-        except: None,
-    },
+    Prefix::Two(FS, b'C'), Form::Fixed(1), None;
     // FS S
-    Row {
-        prefix: Prefix::Two(FS, b'S'),
-        form: Form::Fixed(2),
-        except: None,
-    },
+    Prefix::Two(FS, b'S'), Form::Fixed(2), None;
     // FS W
-    Row {
-        prefix: Prefix::Two(FS, b'W'),
-        form: Form::Fixed(1),
-        except: None,
-    },
+    Prefix::Two(FS, b'W'), Form::Fixed(1), None;
     // FS a 0
-    Row {
-        prefix: Prefix::Three(FS, b'a', b'0'),
-        form: Form::Fixed(1),
-        except: None,
-    },
+    Prefix::Three(FS, b'a', b'0'), Form::Fixed(1), None;
     // FS a 1
-    Row {
-        prefix: Prefix::Three(FS, b'a', b'1'),
-        form: Form::Fixed(0),
-        except: None,
-    },
+    Prefix::Three(FS, b'a', b'1'), Form::Fixed(0), None;
     // FS a 2
-    Row {
-        prefix: Prefix::Three(FS, b'a', b'2'),
-        form: Form::Fixed(0),
-        except: None,
-    },
+    Prefix::Three(FS, b'a', b'2'), Form::Fixed(0), None;
     // FS b
-    Row {
-        prefix: Prefix::Two(FS, b'b'),
-        form: Form::Fixed(0),
-        except: None,
-    },
+    Prefix::Two(FS, b'b'), Form::Fixed(0), None;
     // FS g 1
-    Row {
-        prefix: Prefix::Three(FS, b'g', b'1'),
-        form: Form::Counted(Counted {
-            before: 7,
-            number: Number::Word(5),
-            again: None,
-            unit: 1,
-        }),
-        except: None,
-    },
+    Prefix::Three(FS, b'g', b'1'), Form::Counted(Counted { before: 7, number: Number::Word(5), again: None, unit: 1 }), None;
     // FS g 2
-    Row {
-        prefix: Prefix::Three(FS, b'g', b'2'),
-        form: Form::Fixed(7),
-        except: None,
-    },
+    Prefix::Three(FS, b'g', b'2'), Form::Fixed(7), None;
     // FS p
-    Row {
-        prefix: Prefix::Two(FS, b'p'),
-        form: Form::Fixed(2),
-        except: None,
-    },
+    Prefix::Two(FS, b'p'), Form::Fixed(2), None;
     // FS q
-    Row {
-        prefix: Prefix::Two(FS, b'q'),
-        form: Form::Pictures,
-        except: None,
-    },
+    Prefix::Two(FS, b'q'), Form::Pictures, None;
     // GS FF
-    Row {
-        prefix: Prefix::Two(GS, 0x0C),
-        form: Form::Fixed(0),
-        except: None,
-    },
+    Prefix::Two(GS, 0x0C), Form::Fixed(0), None;
     // GS $
-    Row {
-        prefix: Prefix::Two(GS, b'$'),
-        form: Form::Fixed(2),
-        except: None,
-    },
+    Prefix::Two(GS, b'$'), Form::Fixed(2), None;
     // GS ( A
-    Row {
-        prefix: Prefix::Three(GS, b'(', b'A'),
-        form: Form::Counted(LOW_AND_HIGH),
-        except: None,
-    },
+    Prefix::Three(GS, b'(', b'A'), Form::Counted(LOW_AND_HIGH), None;
     // GS ( B
-    Row {
-        prefix: Prefix::Three(GS, b'(', b'B'),
-        form: Form::Counted(LOW_AND_HIGH),
-        except: None,
-    },
+    Prefix::Three(GS, b'(', b'B'), Form::Counted(LOW_AND_HIGH), None;
     // GS ( C
-    Row {
-        prefix: Prefix::Three(GS, b'(', b'C'),
-        form: Form::Counted(LOW_AND_HIGH),
-        except: None,
-    },
+    Prefix::Three(GS, b'(', b'C'), Form::Counted(LOW_AND_HIGH), None;
     // GS ( D
-    Row {
-        prefix: Prefix::Three(GS, b'(', b'D'),
-        form: Form::Counted(LOW_AND_HIGH),
-        except: None,
-    },
+    Prefix::Three(GS, b'(', b'D'), Form::Counted(LOW_AND_HIGH), None;
     // GS ( E
-    Row {
-        prefix: Prefix::Three(GS, b'(', b'E'),
-        form: Form::Counted(LOW_AND_HIGH),
-        except: None,
-    },
+    Prefix::Three(GS, b'(', b'E'), Form::Counted(LOW_AND_HIGH), None;
     // GS ( F
-    Row {
-        prefix: Prefix::Three(GS, b'(', b'F'),
-        form: Form::Counted(LOW_AND_HIGH),
-        except: None,
-    },
+    Prefix::Three(GS, b'(', b'F'), Form::Counted(LOW_AND_HIGH), None;
     // GS ( G
-    Row {
-        prefix: Prefix::Three(GS, b'(', b'G'),
-        form: Form::Counted(LOW_AND_HIGH),
-        except: None,
-    },
+    Prefix::Three(GS, b'(', b'G'), Form::Counted(LOW_AND_HIGH), None;
     // GS ( H
-    Row {
-        prefix: Prefix::Three(GS, b'(', b'H'),
-        form: Form::Counted(LOW_AND_HIGH),
-        except: Some(0x30),
-    },
+    Prefix::Three(GS, b'(', b'H'), Form::Counted(LOW_AND_HIGH), Some(0x30);
     // GS ( K
-    Row {
-        prefix: Prefix::Three(GS, b'(', b'K'),
-        form: Form::Counted(LOW_AND_HIGH),
-        except: None,
-    },
+    Prefix::Three(GS, b'(', b'K'), Form::Counted(LOW_AND_HIGH), None;
     // GS ( L
-    Row {
-        prefix: Prefix::Three(GS, b'(', b'L'),
-        form: Form::Counted(LOW_AND_HIGH),
-        except: None,
-    },
+    Prefix::Three(GS, b'(', b'L'), Form::Counted(LOW_AND_HIGH), None;
     // GS ( M
-    Row {
-        prefix: Prefix::Three(GS, b'(', b'M'),
-        form: Form::Counted(LOW_AND_HIGH),
-        except: None,
-    },
+    Prefix::Three(GS, b'(', b'M'), Form::Counted(LOW_AND_HIGH), None;
     // GS ( N
-    Row {
-        prefix: Prefix::Three(GS, b'(', b'N'),
-        form: Form::Counted(LOW_AND_HIGH),
-        except: None,
-    },
+    Prefix::Three(GS, b'(', b'N'), Form::Counted(LOW_AND_HIGH), None;
     // GS ( P
-    Row {
-        prefix: Prefix::Three(GS, b'(', b'P'),
-        form: Form::Counted(LOW_AND_HIGH),
-        except: None,
-    },
+    Prefix::Three(GS, b'(', b'P'), Form::Counted(LOW_AND_HIGH), None;
     // GS ( Q
-    Row {
-        prefix: Prefix::Three(GS, b'(', b'Q'),
-        form: Form::Counted(LOW_AND_HIGH),
-        except: None,
-    },
+    Prefix::Three(GS, b'(', b'Q'), Form::Counted(LOW_AND_HIGH), None;
     // GS ( k
-    Row {
-        prefix: Prefix::Three(GS, b'(', b'k'),
-        form: Form::Counted(LOW_AND_HIGH),
-        except: Some(0x31),
-    },
+    Prefix::Three(GS, b'(', b'k'), Form::Counted(LOW_AND_HIGH), Some(0x31);
     // GS *
-    Row {
-        prefix: Prefix::Two(GS, b'*'),
-        form: Form::Counted(Counted {
-            before: 2,
-            number: Number::Byte(0),
-            again: Some(Number::Byte(1)),
-            unit: 8,
-        }),
-        except: None,
-    },
+    Prefix::Two(GS, b'*'), Form::Counted(Counted { before: 2, number: Number::Byte(0), again: Some(Number::Byte(1)), unit: 8 }), None;
     // GS /
-    Row {
-        prefix: Prefix::Two(GS, b'/'),
-        form: Form::Fixed(1),
-        except: None,
-    },
+    Prefix::Two(GS, b'/'), Form::Fixed(1), None;
     // GS 8 L
-    Row {
-        prefix: Prefix::Three(GS, b'8', b'L'),
-        form: Form::Long {
-            before: 4,
-            at: 0,
-            less: 0,
-        },
-        except: None,
-    },
+    Prefix::Three(GS, b'8', b'L'), Form::Long { before: 4, at: 0, less: 0 }, None;
     // GS :
-    Row {
-        prefix: Prefix::Two(GS, b':'),
-        form: Form::Fixed(0),
-        except: None,
-    },
+    Prefix::Two(GS, b':'), Form::Fixed(0), None;
     // GS <
-    Row {
-        prefix: Prefix::Two(GS, b'<'),
-        form: Form::Fixed(0),
-        except: None,
-    },
+    Prefix::Two(GS, b'<'), Form::Fixed(0), None;
     // GS C 0
-    Row {
-        prefix: Prefix::Three(GS, b'C', b'0'),
-        form: Form::Fixed(2),
-        except: None,
-    },
+    Prefix::Three(GS, b'C', b'0'), Form::Fixed(2), None;
     // GS C 1
-    Row {
-        prefix: Prefix::Three(GS, b'C', b'1'),
-        form: Form::Fixed(6),
-        except: None,
-    },
+    Prefix::Three(GS, b'C', b'1'), Form::Fixed(6), None;
     // GS C 2
-    Row {
-        prefix: Prefix::Three(GS, b'C', b'2'),
-        form: Form::Fixed(2),
-        except: None,
-    },
+    Prefix::Three(GS, b'C', b'2'), Form::Fixed(2), None;
     // GS C ;
-    Row {
-        prefix: Prefix::Three(GS, b'C', b';'),
-        form: Form::Until {
-            end: b';',
-            times: 5,
-        },
-        except: None,
-    },
+    Prefix::Three(GS, b'C', b';'), Form::Until { end: b';', times: 5 }, None;
     // GS D
-    Row {
-        prefix: Prefix::Two(GS, b'D'),
-        form: Form::Long {
-            before: 13,
-            at: 9,
-            less: 6,
-        },
-        except: None,
-    },
+    Prefix::Two(GS, b'D'), Form::Long { before: 13, at: 9, less: 6 }, None;
     // GS I
-    Row {
-        prefix: Prefix::Two(GS, b'I'),
-        form: Form::Fixed(1),
-        except: None,
-    },
+    Prefix::Two(GS, b'I'), Form::Fixed(1), None;
     // GS L
-    Row {
-        prefix: Prefix::Two(GS, b'L'),
-        form: Form::Fixed(2),
-        except: None,
-    },
+    Prefix::Two(GS, b'L'), Form::Fixed(2), None;
     // GS P
-    Row {
-        prefix: Prefix::Two(GS, b'P'),
-        form: Form::Fixed(2),
-        except: None,
-    },
+    Prefix::Two(GS, b'P'), Form::Fixed(2), None;
     // GS Q 0
-    Row {
-        prefix: Prefix::Three(GS, b'Q', b'0'),
-        form: Form::Counted(Counted {
-            before: 5,
-            number: Number::Word(1),
-            again: Some(Number::Word(3)),
-            unit: 1,
-        }),
-        except: None,
-    },
+    Prefix::Three(GS, b'Q', b'0'), Form::Counted(Counted { before: 5, number: Number::Word(1), again: Some(Number::Word(3)), unit: 1 }), None;
     // GS T
-    Row {
-        prefix: Prefix::Two(GS, b'T'),
-        form: Form::Fixed(1),
-        except: None,
-    },
+    Prefix::Two(GS, b'T'), Form::Fixed(1), None;
     // GS V
-    Row {
-        prefix: Prefix::With(GS, b'V', 0x61),
-        form: Form::Fixed(1),
-        except: None,
-    },
-    // GS V
-    Row {
-        prefix: Prefix::With(GS, b'V', 0x62),
-        form: Form::Fixed(1),
-        except: None,
-    },
-    // GS V
-    Row {
-        prefix: Prefix::With(GS, b'V', 0x67),
-        form: Form::Fixed(1),
-        except: None,
-    },
-    // GS V
-    Row {
-        prefix: Prefix::With(GS, b'V', 0x68),
-        form: Form::Fixed(1),
-        except: None,
-    },
+    Prefix::With(GS, b'V', 0x61), Form::Fixed(1), None;
+    Prefix::With(GS, b'V', 0x62), Form::Fixed(1), None;
+    Prefix::With(GS, b'V', 0x67), Form::Fixed(1), None;
+    Prefix::With(GS, b'V', 0x68), Form::Fixed(1), None;
     // GS W
-    Row {
-        prefix: Prefix::Two(GS, b'W'),
-        form: Form::Fixed(2),
-        except: None,
-    },
+    Prefix::Two(GS, b'W'), Form::Fixed(2), None;
     // GS \
-    Row {
-        prefix: Prefix::Two(GS, b'\\'),
-        form: Form::Fixed(2),
-        except: None,
-    },
+    Prefix::Two(GS, b'\\'), Form::Fixed(2), None;
     // GS ^
-    Row {
-        prefix: Prefix::Two(GS, b'^'),
-        form: Form::Fixed(3),
-        except: None,
-    },
+    Prefix::Two(GS, b'^'), Form::Fixed(3), None;
     // GS c
-    Row {
-        prefix: Prefix::Two(GS, b'c'),
-        form: Form::Fixed(0),
-        except: None,
-    },
+    Prefix::Two(GS, b'c'), Form::Fixed(0), None;
     // GS g 0
-    Row {
-        prefix: Prefix::Three(GS, b'g', b'0'),
-        form: Form::Fixed(3),
-        except: None,
-    },
+    Prefix::Three(GS, b'g', b'0'), Form::Fixed(3), None;
     // GS g 2
-    Row {
-        prefix: Prefix::Three(GS, b'g', b'2'),
-        form: Form::Fixed(3),
-        except: None,
-    },
+    Prefix::Three(GS, b'g', b'2'), Form::Fixed(3), None;
     // GS j
-    Row {
-        prefix: Prefix::Two(GS, b'j'),
-        form: Form::Fixed(1),
-        except: None,
-    },
+    Prefix::Two(GS, b'j'), Form::Fixed(1), None;
     // GS k
-    Row {
-        prefix: Prefix::With(GS, b'k', 0x01),
-        form: Form::Until { end: 0, times: 1 },
-        except: None,
-    },
-    // GS k
-    Row {
-        prefix: Prefix::With(GS, b'k', 0x42),
-        form: Form::Counted(COUNT_BYTE),
-        except: None,
-    },
-    // GS k
-    Row {
-        prefix: Prefix::With(GS, b'k', 0x48),
-        form: Form::Counted(COUNT_BYTE),
-        except: None,
-    },
-    // GS k
-    Row {
-        prefix: Prefix::With(GS, b'k', 0x4A),
-        form: Form::Counted(COUNT_BYTE),
-        except: None,
-    },
-    // GS k
-    Row {
-        prefix: Prefix::With(GS, b'k', 0x4B),
-        form: Form::Counted(COUNT_BYTE),
-        except: None,
-    },
-    // GS k
-    Row {
-        prefix: Prefix::With(GS, b'k', 0x4C),
-        form: Form::Counted(COUNT_BYTE),
-        except: None,
-    },
-    // GS k
-    Row {
-        prefix: Prefix::With(GS, b'k', 0x4D),
-        form: Form::Counted(COUNT_BYTE),
-        except: None,
-    },
-    // GS k
-    Row {
-        prefix: Prefix::With(GS, b'k', 0x4E),
-        form: Form::Counted(COUNT_BYTE),
-        except: None,
-    },
-    // GS k
-    Row {
-        prefix: Prefix::With(GS, b'k', 0x4F),
-        form: Form::Counted(COUNT_BYTE),
-        except: None,
-    },
+    Prefix::With(GS, b'k', 0x01), Form::Until { end: 0, times: 1 }, None;
+    Prefix::With(GS, b'k', 0x42), Form::Counted(COUNT_BYTE), None;
+    Prefix::With(GS, b'k', 0x48), Form::Counted(COUNT_BYTE), None;
+    Prefix::With(GS, b'k', 0x4A), Form::Counted(COUNT_BYTE), None;
+    Prefix::With(GS, b'k', 0x4B), Form::Counted(COUNT_BYTE), None;
+    Prefix::With(GS, b'k', 0x4C), Form::Counted(COUNT_BYTE), None;
+    Prefix::With(GS, b'k', 0x4D), Form::Counted(COUNT_BYTE), None;
+    Prefix::With(GS, b'k', 0x4E), Form::Counted(COUNT_BYTE), None;
+    Prefix::With(GS, b'k', 0x4F), Form::Counted(COUNT_BYTE), None;
     // GS r
-    Row {
-        prefix: Prefix::Two(GS, b'r'),
-        form: Form::Fixed(1),
-        except: None,
-    },
+    Prefix::Two(GS, b'r'), Form::Fixed(1), None;
     // GS z 0
-    Row {
-        prefix: Prefix::Three(GS, b'z', b'0'),
-        form: Form::Fixed(2),
-        except: None,
-    },
+    Prefix::Three(GS, b'z', b'0'), Form::Fixed(2), None;
     // GS |
-    Row {
-        prefix: Prefix::Two(GS, b'|'),
-        form: Form::Fixed(1),
-        except: None,
-    },
-];
+    Prefix::Two(GS, b'|'), Form::Fixed(1), None;
+};

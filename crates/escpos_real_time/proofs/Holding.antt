@@ -1,7 +1,7 @@
 -- Real-time commands in lists of bytes: found from the first byte on, in a part, and across the end of a part.
-use Rattle.std.proofs.Common.{◌≡◌, ◌≢◌, ◌≤◌, ◌⊎◌, inl, inr, ℕ, Bool, true, false, IsTrue, List, [], ◌∷◌, ◌++◌, refl, sym, ◌∙◌, ap, append_assoc, append-nil, arith}
+use Rattle.std.proofs.Common.{◌≡◌, ◌≢◌, ◌≤◌, ◌<◌, ◌⊎◌, inl, inr, ℕ, zero, suc, length, drop, Bool, true, false, IsTrue, List, [], ◌∷◌, ◌++◌, refl, sym, ◌∙◌, ap, append_assoc, append-nil, arith}
 use Rattle.std.proofs.lemmas.Bool.Decides.{nat_tests}
-use Rattle.std.specs.Prelude.{◌||◌, ◌&&◌, ◌==◌, nat_le}
+use Rattle.std.specs.Prelude.{◌||◌, ◌&&◌, ◌==◌, nat_le, slice_index}
 use Rattle.escpos_command.proofs.Copied.{same_parts}
 use Rattle.escpos_command.specs.declared.bytes.TheConstants.{DLE, EOT}
 use Rattle.escpos_real_time.specs.declared.scan.TheConstants.{ENQ, DC4}
@@ -86,6 +86,10 @@ one_before : (a b : ℕ) (bytes : List ℕ) → IsStart b → holds (a ∷ b ∷
 one_before a b [] s = refl
 one_before a b (n ∷ bytes) s = ap (λ t. t || holds (b ∷ n ∷ bytes)) (no_second a b n s)
 
+not_true : {t : Bool} → t ≢ true → t ≡ false
+not_true {t = true} h = absurd (h refl)
+not_true {t = false} h = refl
+
 -- A byte other than DLE begins none.
 pub skip : (a : ℕ) (bytes : List ℕ) → (a == DLE) ≡ false → holds (a ∷ bytes) ≡ holds bytes
 skip a [] e = refl
@@ -93,6 +97,27 @@ skip a (b ∷ []) e = refl
 skip a (b ∷ n ∷ bytes) e =
     let rest = b == EOT && (nat_le 1 n && nat_le n 8) || b == ENQ && nat_le n 2 || b == DC4 && (nat_le 1 n && nat_le n 3 || nat_le 6 n && nat_le n 8) in
     ap (λ t. t && rest || holds (b ∷ n ∷ bytes)) e
+
+pub not_one : (a : ℕ) → a ≢ DLE → (a == DLE) ≡ false
+not_one a other = grind (arith, nat_tests, other)
+
+-- Bytes none of which is DLE.
+pub none_held : (bytes following : List ℕ) → ((k : ℕ) → k < length bytes → (slice_index bytes k == DLE) ≢ true) → holds (bytes ++ following) ≡ holds following
+none_held [] following none = refl
+none_held (b ∷ bytes) following none =
+    skip b (bytes ++ following) (not_true (none 0 (omega arith)))
+    ∙ none_held bytes following (λ k h. none (suc k) (omega (arith, h)))
+
+-- Up to the first DLE, after which a byte stands that is none.
+pub held_from : (bytes following : List ℕ) (k : ℕ) → k < length bytes → ((i : ℕ) → i < k → (slice_index bytes i == DLE) ≢ true) → (slice_index bytes k == DLE) ≡ true
+    → holds (bytes ++ following) ≡ holds (DLE ∷ (drop (suc k) bytes ++ following))
+held_from [] following k h none is = absurd (omega (arith, h))
+held_from (b ∷ bytes) following zero h none is =
+    let e : b ≡ DLE = grind (arith, nat_tests, is) in
+    ap (λ d. holds (d ∷ (bytes ++ following))) e
+held_from (b ∷ bytes) following (suc k) h none is =
+    skip b (bytes ++ following) (not_true (none 0 (omega arith)))
+    ∙ held_from bytes following k (omega (arith, h)) (λ i l. none (suc i) (omega (arith, l))) is
 
 or_assoc : (r s t : Bool) → (r || (s || t)) ≡ ((r || s) || t)
 or_assoc true s t = refl

@@ -1,11 +1,13 @@
 //! Whether a command holds a real-time command: its bytes are gone through once, where they are.
 
-ghost use Rattle.std.specs.Prelude.{◌≡◌, ◌↔◌, ◌≤◌, ◌||◌, ℕ, List, ◌∷◌, ◌++◌, IsTrue};
+ghost use Rattle.std.specs.Prelude.{◌≡◌, ◌≢◌, ◌↔◌, ◌≤◌, ◌||◌, ℕ, List, ◌∷◌, ◌++◌, length, drop, IsTrue};
 ghost use Rattle.escpos_command.specs.CommandTable.{row};
+ghost use Rattle.escpos_command.specs.declared.bytes.TheConstants.{DLE};
 ghost use Rattle.escpos_real_time.specs.RealTime.{HoldsRealTime, is_real_time};
 ghost use Rattle.escpos_real_time.specs.Scan.{holds};
 
 use escpos_command::{Command, DLE, EOT};
+use memchr::memchr;
 
 /// Enquiry, the second byte of DLE ENQ.
 pub const ENQ: u8 = 0x05;
@@ -47,6 +49,11 @@ pub fn holds_real_time(command: &Command) -> bool
     last.find(parts.suffix)
 }
 
+// Fewer bytes than this are gone through one by one.
+const SHORT: usize = 16;
+
+const _: () = prove!(SHORT == 16);
+
 // The two bytes that came last.
 #[derive(Clone, Copy, Debug, PartialEq, Eq)]
 struct LastTwo {
@@ -59,13 +66,42 @@ impl LastTwo {
     fn find(&mut self, bytes: &[u8]) -> bool
         ensures { (following : List ℕ) → holds (self.old.first ∷ self.old.second ∷ (bytes.now ++ following)) ≡ (result || holds (self.new.first ∷ self.new.second ∷ following)) }
     {
-        for byte in bytes {
-            if is_real_time(self.first, self.second, *byte) {
+        let mut at = 0;
+        while at < bytes.len() {
+            if bytes.len() - at >= SHORT && self.first != DLE && self.second != DLE {
+                at += self.pass(&bytes[at..]);
+                continue;
+            }
+            let byte = bytes[at];
+            if is_real_time(self.first, self.second, byte) {
                 return true;
             }
             self.first = self.second;
-            self.second = *byte;
+            self.second = byte;
+            at += 1;
         }
         false
+    }
+
+    // Goes through the bytes up to the first DLE, and returns how many these are. Nothing begins before it.
+    #[inline(never)]
+    fn pass(&mut self, bytes: &[u8]) -> usize
+        requires some { 1 ≤ length bytes.now }
+        requires first { self.old.first ≢ DLE }
+        requires second { self.old.second ≢ DLE }
+        ensures count { (1 ≤ result) × (result ≤ length bytes.now) }
+        ensures held { (following : List ℕ) → holds (self.old.first ∷ self.old.second ∷ (bytes.now ++ following)) ≡ holds (self.new.first ∷ self.new.second ∷ (drop result bytes.now ++ following)) }
+    {
+        self.first = 0;
+        match memchr(DLE, bytes) {
+            Some(place) => {
+                self.second = DLE;
+                place + 1
+            }
+            None => {
+                self.second = 0;
+                bytes.len()
+            }
+        }
     }
 }

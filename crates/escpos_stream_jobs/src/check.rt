@@ -14,6 +14,7 @@ use escpos_command::{Command, LineWidth};
 use escpos_io::{ByteIn, ByteOut, Gather};
 use escpos_job_parts::form::Form;
 use escpos_job_parts::lines::{LINE_BYTES, Last, append_character, put_line};
+use escpos_job_parts::places::PlaceText;
 use escpos_job_parts::status::Status;
 use escpos_passed::{Row, TokenConsumer};
 use std::alloc::Global;
@@ -36,10 +37,11 @@ pub fn check<R: ByteIn, W: ByteOut>(
     run::<R, W, Listing>(alloc, form, pass, LineWidth::usual(), input, output)
 }
 
-// The lines that aren't printed yet.
+// The lines that aren't printed yet, and the text of the last character's place.
 #[derive(Drop)]
 struct Listing {
     gather: Gather,
+    places: PlaceText,
 }
 
 impl<W: ByteOut> TokenConsumer<W> for Listing {
@@ -63,7 +65,7 @@ impl<W: ByteOut> TokenConsumer<W> for Listing {
         if let Err(_) = self.gather.room(LINE_BYTES, output) {
             return Err(Obstacle::Device);
         }
-        append_character(&mut self.gather, place, text[0]);
+        append_character(&mut self.gather, &mut self.places, place, text[0]);
         Ok(1)
     }
 
@@ -97,6 +99,7 @@ impl<W: ByteOut> Job<W> for Listing {
     fn new(_alloc: Global, _width: LineWidth) -> Self {
         Listing {
             gather: Gather::new(),
+            places: PlaceText::new(),
         }
     }
 

@@ -1,6 +1,6 @@
 use Rattle.std.proofs.Common.{rules, Fits, w64, ℕ, List, ◌<◌, ◌≤◌, ◌≡◌, ◌+◌, ◌-◌, ◌++◌, length, length-take, length-drop, take, drop, refl, subst, arith, ◌∙◌, ap}
 use Rattle.std.specs.Prelude.{slice_index}
-use Rattle.escpos_command.specs.declared.command.Command.TheVariants.{Char}
+use Rattle.escpos_command.specs.declared.command.Command.TheVariants.{Char, Set}
 use Rattle.escpos_passed.specs.Reading.{text_tokens}
 use Rattle.std.proofs.lemmas.List.{take-take}
 use Rattle.escpos_passed.specs.declared.finding.Found.TheVariants.{Whole}
@@ -8,7 +8,7 @@ use Rattle.escpos_passed.specs.declared.table.Row.{Row}
 use Rattle.escpos_passed.specs.Finding.{IsFound}
 use Rattle.escpos_passed.specs.Table.{table, row_at, IsPassed, IsPassedBy}
 use Rattle.escpos_passed.specs.Tokens.{taken, passed}
-use Rattle.escpos_passed.proofs.Turns.{rest_length, all_taken, turn_reads, turn_more, turn_run, turn_done, turn_refused, turn_text, turn_text_refused, turn_fault, turn_nothing, turn_part, turn_passed, turn_not_passed, turn_further, turn_small, place_of}
+use Rattle.escpos_passed.proofs.Turns.{rest_length, all_taken, turn_reads, turn_more, turn_run, turn_done, turn_refused, turn_setting, turn_setting_refused, turn_text, turn_text_refused, turn_fault, turn_nothing, turn_part, turn_passed, turn_not_passed, turn_further, turn_small, place_of}
 use Rattle.escpos_passed.proofs.reading.read_tokens.Goals as goal
 
 pub returns-in-Err-clause-refused : goal.returns-in-Err-clause-refused
@@ -49,6 +49,32 @@ loop-at-preserved-then-count-gt0 g c =
       inside = fits;
     }
 
+pub returns-in-Err-take-clause-refused : goal.returns-in-Err-take-clause-refused
+returns-in-Err-take-clause-refused g c =
+    let bytes = c.args.bytes.now in
+    let at = c.loop-at.at in
+    let found = c.in-Some.ensures.spelled in
+    let fits = rest_length bytes at 3 c.loop-at.invariant.inside found.0 in (
+      (c.loop-at.consumer, c.loop-at.output),
+      at + 3,
+      taken (Set c.in-Some.setting),
+      turn_setting_refused c.args.pass _ bytes c.loop-at.decoder at 3 (length bytes - at) c.loop-at.start c.loop-at.passed (Set c.in-Some.setting) fits (omega (arith, fits)) c.in-Some.ensures.between c.loop-at.invariant.turn found.1,
+      c.in-Err-take.ensures.refused,
+    )
+
+pub loop-at-preserved-in-Some : goal.loop-at-preserved-in-Some
+loop-at-preserved-in-Some g c =
+    let bytes = c.args.bytes.now in
+    let at = c.loop-at.at in
+    let found = c.in-Some.ensures.spelled in
+    let fits = rest_length bytes at 3 c.loop-at.invariant.inside found.0 in
+    record {
+      turn =
+          turn_setting c.args.pass _ _ bytes c.loop-at.decoder at 3 (length bytes - at) c.loop-at.start c.loop-at.passed _ (Set c.in-Some.setting) fits (omega (arith, fits)) c.in-Some.ensures.between c.loop-at.invariant.turn found.1
+          (λ ts placed all. c.in_default-take.ensures.accepted _ ts placed all) refl;
+      inside = fits;
+    }
+
 pub loop-at-preserved-in-Ok-More : goal.loop-at-preserved-in-Ok-More
 loop-at-preserved-in-Ok-More g c =
     let step = rw c.in-Ok-More.field-0-is at c.in-Ok-More.ensures.step in
@@ -63,14 +89,14 @@ loop-at-preserved-in-Ok-More g c =
       inside = fits;
     }
 
-pub returns-in-Err-take-clause-refused : goal.returns-in-Err-take-clause-refused
-returns-in-Err-take-clause-refused g c =
+pub returns-in-Err-take-2-clause-refused : goal.returns-in-Err-take-2-clause-refused
+returns-in-Err-take-2-clause-refused g c =
     let step = rw (c.in-Ok-Done.field-0-is, c.in-Ok-Done.command-is) at c.in-Ok-Done.ensures.step in (
       (c.loop-at.consumer, c.loop-at.output),
       c.loop-at.at + 1,
       taken c.in-Ok-Done.command,
       turn_refused c.args.pass _ c.args.bytes.now c.loop-at.decoder c.loop-at.at c.loop-at.start c.loop-at.passed c.in-Ok-Done.command c.loop-at-test.true c.loop-at.invariant.turn step.0,
-      c.in-Err-take.ensures.refused,
+      c.in-Err-take-2.ensures.refused,
     )
 
 pub loop-at-preserved-in-Ok-Done : goal.loop-at-preserved-in-Ok-Done
@@ -79,7 +105,7 @@ loop-at-preserved-in-Ok-Done g c =
     record {
       turn =
           turn_done c.args.pass _ _ c.args.bytes.now c.loop-at.decoder c.push.new.self c.loop-at.at c.loop-at.start c.loop-at.passed _ c.in-Ok-Done.command c.loop-at-test.true c.loop-at.invariant.turn step.0 step.1
-          (λ ts placed all. c.in_default-take.ensures.accepted _ ts placed all) refl;
+          (λ ts placed all. c.in_default-take-2.ensures.accepted _ ts placed all) refl;
       inside = omega (arith, c.loop-at-test.true);
     }
 
