@@ -102,22 +102,31 @@ of a printer that knows them may differ.
           1B 26     ESC &   refused: characters that the host defines
           1B 28     ESC (   refused: the buzzer
           1B 2A     ESC *   refused: an image in another form than GS v 0
+          1B 2B     ESC +   refused: of few printers
           1B 3F     ESC ?   refused: characters that the host defines
           1B 40     ESC @   taken
+          1B 41     ESC A   refused: of few printers
+          1B 42     ESC B   refused: a buzzer
           1B 44     ESC D   refused: tab stops
           1B 4A     ESC J   taken
           1B 4B     ESC K   refused: feeds backwards
           1B 4C     ESC L   refused: page mode
+          1B 51     ESC Q   refused: of few printers
           1B 53     ESC S   refused: page mode
           1B 54     ESC T   refused: page mode
           1B 56     ESC V   refused: turned characters
           1B 57     ESC W   refused: page mode
           1B 5C     ESC \\   refused: positions in the line
+          1B 63 30  ESC c 0 refused: of few printers
+          1B 63 31  ESC c 1 refused: of few printers
           1B 64     ESC d   taken
           1B 65     ESC e   refused: feeds backwards
+          1B 66     ESC f   refused: of few printers
           1B 69     ESC i   refused: an older form of a cut; GS V is taken
+          1B 6C     ESC l   refused: of few printers
           1B 6D     ESC m   refused: an older form of a cut; GS V is taken
           1B 70     ESC p   taken
+          1B 71     ESC q   refused: of few printers
           1B 72     ESC r   refused: a second colour
           1B 75     ESC u   refused: a status request; DLE EOT is taken
           1B 76     ESC v   refused: a status request; DLE EOT is taken
@@ -130,14 +139,20 @@ of a printer that knows them may differ.
           1C 43     FS C    refused: Kanji characters
           1C 53     FS S    refused: Kanji characters
           1C 57     FS W    refused: Kanji characters
+          1C 61     FS a    refused: of few printers
+          1C 62     FS b    refused: of few printers
           1C 67     FS g    refused: memory of the machine
           1C 70     FS p    refused: images that the machine keeps
           1C 71     FS q    refused: images that the machine keeps
+          1D 0C     GS FF   refused: label paper
           1D 24     GS $    refused: page mode
           1D 28 41  GS ( A  refused: a test print of the machine
+          1D 28 42  GS ( B  refused: of few printers
           1D 28 43  GS ( C  refused: memory of the machine
           1D 28 44  GS ( D  refused: settings of the machine
           1D 28 45  GS ( E  refused: settings of the machine
+          1D 28 46  GS ( F  refused: label paper
+          1D 28 47  GS ( G  refused: of few printers
           1D 28 48  GS ( H  taken: function 48
           1D 28 4B  GS ( K  refused: settings of the machine
           1D 28 4C  GS ( L  refused: an image in another form than GS v 0
@@ -150,6 +165,7 @@ of a printer that knows them may differ.
           1D 2F     GS /    refused: an image in another form than GS v 0
           1D 38     GS 8 L  refused: an image in another form than GS v 0
           1D 3A     GS :    refused: macros
+          1D 3C     GS <    refused: label paper
           1D 43     GS C    refused: counters of the machine
           1D 44     GS D    refused: images that the machine keeps
           1D 49     GS I    refused: an answer that the line has no use for
@@ -164,6 +180,7 @@ of a printer that knows them may differ.
           1D 61     GS a    taken
           1D 63     GS c    refused: counters of the machine
           1D 67     GS g    refused: counters of the machine
+          1D 6A     GS j    refused: of few printers
           1D 6B     GS k    taken
           1D 72     GS r    refused: a status request; DLE EOT is taken
           1D 76 30  GS v 0  taken
