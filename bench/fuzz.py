@@ -7,7 +7,7 @@ import json, math, re
 from barcodes import qr_side, widths
 from text import Encoding, NoCharacter
 
-MARKS = 36**4
+MARKS = 36**4  # ids of marks, which come round
 
 # Commands of one spelling; and those of fixed bytes with one parameter byte, with what that may be.
 PLAIN = {"lf": b"\n", "cr": b"\r", "init": b"\x1b@", "spacing default": b"\x1b2", "home": b"\x1b<", "kanji off": b"\x1c.", "qrprint": b"\x1d(k\x03\x001Q0"}
@@ -135,6 +135,29 @@ def some_command(pick):
         return qr_model(number), f"qrmodel {number:02x}"
     values = [pick.choice((65, 66) if name == "cut" else (0, 1, 48, 49))] + pick.choices(range(256), k=1 if name == "cut" else 2)
     return WITH_BYTES[name] + bytes(values), f"{name} {bytes(values).hex(' ')}"
+
+
+# Commands that are passed over, by their names: how many bytes follow the name, or None where two bytes with their number do.
+PASSED = {
+    "CAN": 0, "DLE ENQ": 1, "ESC %": 1, "ESC ?": 1, "ESC B": 2, "ESC K": 1, "ESC L": 0, "ESC S": 0, "ESC T": 1, "ESC W": 8, "ESC e": 1, "ESC u": 1, "ESC v": 0,
+    "FF": 0, "FS !": 1, "FS &": 0, "FS -": 1, "FS C": 1, "FS S": 2, "FS W": 1, "FS p": 2, "GS $": 2, "GS /": 1, "GS :": 0, "GS I": 1, "GS P": 2, "GS T": 1, "GS ^": 3,
+    "GS c": 0, "GS r": 1, "ESC ( A": None, "FS ( A": None, "FS ( C": None, "FS ( E": None, "GS ( A": None, "GS ( C": None, "GS ( D": None, "GS ( E": None, "GS ( K": None,
+    "GS ( M": None, "GS ( N": None, "GS ( P": None, "GS ( Q": None,
+}
+LETTERS = {"CAN": b"\x18", "DLE": b"\x10", "ENQ": b"\x05", "ESC": b"\x1b", "FF": b"\x0c", "FS": b"\x1c", "GS": b"\x1d"}
+
+
+def some_passed(pick):
+    """Returns the bytes of a command that is passed over, and its line in a listing without the place."""
+    name = pick.choice(list(PASSED))
+    count = PASSED[name]
+    if count is None:
+        count = pick.choice((0, 1, 2, 40, 300))
+        following = count.to_bytes(2, "little") + pick.randbytes(count)
+    else:
+        following = pick.randbytes(count)
+    front = b"".join(LETTERS.get(word, word.encode()) for word in name.split(" "))
+    return front + following, f"passed {name}" + following.hex(" ", 1).join((" ", "")) * bool(following)
 
 
 def respelled(line, stream):
