@@ -32,6 +32,7 @@ WITH_BYTE = {
     "smooth": (b"\x1db", range(256)),
     "unidirectional": (b"\x1bU", range(256)),
     "charspacing": (b"\x1b ", range(256)),
+    "color": (b"\x1br", (0, 1, 48, 49)),
     "devices": (b"\x1b=", range(256)),
     "endsensors": (b"\x1bc3", range(256)),
     "stopsensors": (b"\x1bc4", range(256)),

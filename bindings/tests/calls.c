@@ -218,6 +218,7 @@ static void lists_and_prints(void) {
     ".B{font-size:15px}\n" \
     ".bold{font-weight:bold}\n" \
     ".white{fill:#fff}\n" \
+    ".second{fill:#c00}\n" \
     ".middle{text-anchor:middle}\n" \
     ".bars path,.raster path{stroke:#000;shape-rendering:crispEdges}\n" \
     ".raster{clip-path:url(#line)}\n" \

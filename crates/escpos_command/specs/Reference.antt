@@ -52,6 +52,7 @@ reference sets.StopSensors = setting_of (ESC ∷ 0x63 ∷ 0x34 ∷ []) (passes i
 reference sets.PanelButtons = setting_of (ESC ∷ 0x63 ∷ 0x35 ∷ []) (passes is_byte) (codes "buttons")  -- ESC c 5
 reference sets.KanjiOff = setting_of (FS ∷ 0x2E ∷ []) alone (codes "kanji off")  -- FS .
 reference sets.CharacterSpacing = setting_of (ESC ∷ 0x20 ∷ []) (passes is_byte) (codes "charspacing")  -- ESC SP
+reference sets.Color = setting_of (ESC ∷ 0x72 ∷ []) (passes is_one_of_two) (codes "color")  -- ESC r
 
 -- The name that programs print.
 abbrev pub name_of : SettingKind → List ℕ

@@ -92,6 +92,8 @@ pub enum SettingKind {
     KanjiOff,
     /// The space to the right of each character, in motion units. It is kept with each character. (Reference: ESC SP.)
     CharacterSpacing,
+    /// The colour. It is kept with each character. (Reference: ESC r.)
+    Color,
 }
 
 /// A row of the table.
@@ -140,6 +142,7 @@ macro_rules! settings {
             PanelButtons, ESC, b'c', (Some(b'5')), Byte, 4, "buttons";
             KanjiOff, FS, b'.', None, Nothing, 4, "kanji off";
             CharacterSpacing, ESC, b' ', None, Byte, 4, "charspacing";
+            Color, ESC, b'r', None, OneOfTwo, 4, "color";
         }
     };
 }

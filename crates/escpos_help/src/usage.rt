@@ -127,7 +127,6 @@ of a printer that knows them may differ.
           1B 6D     ESC m   refused: an older form of a cut; GS V is taken
           1B 70     ESC p   taken
           1B 71     ESC q   refused: of few printers
-          1B 72     ESC r   refused: a second colour
           1B 75     ESC u   refused: a status request; DLE EOT is taken
           1B 76     ESC v   refused: a status request; DLE EOT is taken
           1C 21     FS !    refused: Kanji characters

@@ -294,7 +294,7 @@ const CHECKED_STYLES: [Row; 25] = [
     (b"1B 34", b"fault 1 2 UnknownCommand\n", Status::Refused),
     (b"1B 56 01", b"fault 1 2 UnknownCommand\n", Status::Refused),
     (b"1B 44 01", b"fault 1 2 UnknownCommand\n", Status::Refused),
-    (b"1B 72 01", b"fault 1 2 UnknownCommand\n", Status::Refused),
+    (b"1B 72 02", b"fault 2 3 BadParameter\n", Status::Refused),
     (
         b"1D 4C 00 00",
         b"fault 1 2 UnknownCommand\n",

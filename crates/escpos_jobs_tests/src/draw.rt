@@ -17,6 +17,7 @@ text{font-family:\"DejaVu Sans Mono\",Menlo,Consolas,monospace;font-size:20px;wh
 .B{font-size:15px}
 .bold{font-weight:bold}
 .white{fill:#fff}
+.second{fill:#c00}
 .middle{text-anchor:middle}
 .bars path,.raster path{stroke:#000;shape-rendering:crispEdges}
 .raster{clip-path:url(#line)}
@@ -30,7 +31,7 @@ text{font-family:\"DejaVu Sans Mono\",Menlo,Consolas,monospace;font-size:20px;wh
 // A stream in hexadecimal, the height of its paper and of its document in dots, and what stands between head and end.
 type Drawn = (&'static str, &'static str, &'static str, &'static str);
 
-const DRAWN: [Drawn; 37] = [
+const DRAWN: [Drawn; 39] = [
     // an empty paper: its margins alone
     ("", "64", "64", ""),
     // a row, 24 dots high, with its base line three quarters down, and a feed of 30 dots from its upper edge
@@ -69,6 +70,19 @@ const DRAWN: [Drawn; 37] = [
         "94",
         "94",
         "<g class=\"row\" transform=\"translate(32,50)\"><path d=\"M0 -18h32v24h-32z\"/><text x=\"0\" class=\"white\" textLength=\"28\">AB</text></g>\n<g class=\"feed\"/>\n",
+    ),
+    // a second colour: what would be black has it
+    (
+        "1B 72 01 1B 2D 01 41 0A",
+        "94",
+        "94",
+        "<g class=\"row\" transform=\"translate(32,50)\"><g class=\"second\"><text x=\"0\" textLength=\"12\">A</text><path d=\"M0 5h12v1h-12z\"/></g></g>\n<g class=\"feed\"/>\n",
+    ),
+    (
+        "1B 72 01 1D 42 01 41 0A",
+        "94",
+        "94",
+        "<g class=\"row\" transform=\"translate(32,50)\"><g class=\"second\"><path d=\"M0 -18h12v24h-12z\"/><text x=\"0\" class=\"white\" textLength=\"12\">A</text></g></g>\n<g class=\"feed\"/>\n",
     ),
     // three motion units are one and a half dots
     (

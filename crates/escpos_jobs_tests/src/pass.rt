@@ -58,12 +58,12 @@ const PRINTED: [Row; 4] = [
     // nothing is passed over
     (b"Hi\n", b"row left Hi\nfeed 1\n", Status::Good),
     (
-        b"\x1Br\x01A\n\x1Br\x00\x1B",
+        b"\x1BK\x01A\n\x1BK\x00\x1B",
         b"row left A\nfeed 1\npassed 2\nend 9 pending 1\n",
         Status::Refused,
     ),
     (
-        b"\x1Br\x01A\n\x1B\xFF",
+        b"\x1BK\x01A\n\x1B\xFF",
         b"row left A\nfeed 1\npassed 1\nfault 6 2 UnknownCommand\n",
         Status::Refused,
     ),

@@ -193,7 +193,7 @@ fn contents_in_render(rt: HostRuntime) {
 }
 
 // What is new since the second profile.
-const RENDERED_STYLES: [Row; 26] = [
+const RENDERED_STYLES: [Row; 28] = [
     // strike, beside emphasis, by bit 0 alone
     (
         b"1B 45 01 1B 47 01 41 1B 47 02 42 0A",
@@ -329,6 +329,17 @@ const RENDERED_STYLES: [Row; 26] = [
     (
         b"1B 20 05 41 1B 20 00 42 0A",
         b"row left [A,1,1,0,0,0,0,0,0,5]A[A,1,1,0,0,0]B\nfeed 1\n",
+        Status::Good,
+    ),
+    // a second colour, and back
+    (
+        b"1B 72 01 41 1B 72 30 42 1B 72 31 43 0A",
+        b"row left [A,1,1,0,0,0,0,0,0,0,1]A[A,1,1,0,0,0]B[A,1,1,0,0,0,0,0,0,0,1]C\nfeed 1\n",
+        Status::Good,
+    ),
+    (
+        b"1B 20 05 1B 72 01 41 1B 40 42 0A",
+        b"row left B\nfeed 1\n",
         Status::Good,
     ),
     // an alignment in mid-line has no effect on the next line either

@@ -8,7 +8,7 @@ use Rattle.escpos_command.specs.Text.{text, text_after, ends_line, ends_later, c
 use Rattle.escpos_paper.specs.declared.cell.Cell.{Cell}
 use Rattle.escpos_paper.specs.declared.style.Style.{Style}
 use Rattle.escpos_paper.specs.OverPlaces.{over_places}
-use Rattle.escpos_paper.specs.Styles.{acts_at_line_start, is_empty, power_on, power_on_settings, settings, style, sets_qr_model, sets_qr_size, sets_correction, if_it_counts, commands_that_count, sets_alignment, sets_upside_down, sets_spacing, sets_table, sets_font, sets_width, sets_height, sets_bold, sets_underline, sets_strike, sets_reverse, sets_character_set, sets_character_spacing, sets_bar_height, sets_module_width, sets_hri_place, sets_hri_font, set_after, style_after}
+use Rattle.escpos_paper.specs.Styles.{acts_at_line_start, is_empty, power_on, power_on_settings, settings, style, sets_qr_model, sets_qr_size, sets_correction, if_it_counts, commands_that_count, sets_alignment, sets_upside_down, sets_spacing, sets_table, sets_font, sets_width, sets_height, sets_bold, sets_underline, sets_strike, sets_reverse, sets_character_set, sets_character_spacing, sets_color, sets_bar_height, sets_module_width, sets_hri_place, sets_hri_font, set_after, style_after}
 use Rattle.escpos_command.specs.Settings.{setting}
 use Rattle.escpos_command.proofs.Lines.{ends_later-snoc}
 use Rattle.escpos_command.proofs.Settings.{or_false, or_true, setting-snoc}
@@ -30,6 +30,7 @@ style-snoc cs c =
       setting-snoc sets_reverse power_on.reverse cs c,
       setting-snoc sets_character_set power_on.character_set cs c,
       setting-snoc sets_character_spacing power_on.spacing cs c,
+      setting-snoc sets_color power_on.color cs c,
     )
 
 -- ## Places

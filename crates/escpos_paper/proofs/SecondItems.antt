@@ -47,6 +47,7 @@ unfolding table
 style_stays s (kind.Set (sets.DoubleStrike, p)) k h = absurd cc
 style_stays s (kind.Set (sets.CharacterSet, p)) k h = absurd cc
 style_stays s (kind.Set (sets.CharacterSpacing, p)) k h = absurd cc
+style_stays s (kind.Set (sets.Color, p)) k h = absurd cc
 style_stays s (kind.Set (sets.Reverse, p)) k h = absurd cc
 style_stays s (kind.QrModel n) k h = absurd cc
 style_stays s (kind.QrSize n) k h = absurd cc

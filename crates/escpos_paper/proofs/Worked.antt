@@ -107,6 +107,9 @@ no_character_set h = let clash : false ≡ true = h in cc
 no_character_spacing : IsSecondCell (cell (record power_on { spacing = 1 }) 0x41) → ⊥
 no_character_spacing h = let clash : false ≡ true = h in cc
 
+no_second_color : IsSecondCell (cell (record power_on { color = 1 }) 0x41) → ⊥
+no_second_color h = let clash : false ≡ true = h in cc
+
 -- Init drops the line
 init_drops_line : printed 512 (Char 0x41 ∷ Init ∷ Char 0x42 ∷ LineFeed ∷ []) ≡ Row Left false (cell power_on 0x42 ∷ []) ∷ Feed 1 None ∷ []
 init_drops_line = refl

@@ -35,13 +35,16 @@ face_name B = codes "B"
 abbrev pub flag_text : Bool → List ℕ
 flag_text b = if b then codes "1" else codes "0"
 
--- Strike, reverse, character set and spacing are as at power on.
+-- Strike, reverse, character set, spacing and colour are as at power on.
 abbrev pub has_six_fields : Style → Bool
-has_six_fields s = not s.strike && not s.reverse && s.character_set == 0 && s.spacing == 0
+has_six_fields s = not s.strike && not s.reverse && s.character_set == 0 && s.spacing == 0 && s.color == 0
 
--- The space to the right of a character is a field where there is one.
+-- The space to the right of a character is a field where there is one, or a second colour; and so is that colour.
+abbrev pub color_field : Style → List ℕ
+color_field s = if s.color == 0 then [] else codes "," ++ decimal s.color
+
 abbrev pub spacing_field : Style → List ℕ
-spacing_field s = if s.spacing == 0 then [] else codes "," ++ decimal s.spacing
+spacing_field s = if s.spacing == 0 && s.color == 0 then [] else codes "," ++ decimal s.spacing ++ color_field s
 
 -- Otherwise they are fields, too.
 abbrev pub further_fields : Style → List ℕ
@@ -56,7 +59,7 @@ six_fields s =
 
 -- A style: [F,W,H,B,U,T] with the font A or B, width, height, emphasis as 1 or 0, underline and table; or
 -- [F,W,H,B,U,T,S,R,C], with strike and reverse as 1 or 0, and character set; or [F,W,H,B,U,T,S,R,C,N], with the space to the
--- right of the character.
+-- right of the character; or [F,W,H,B,U,T,S,R,C,N,K], with the number of its colour.
 abbrev pub style_text : Style → List ℕ
 style_text s = codes "[" ++ six_fields s ++ further_fields s ++ codes "]"
 

@@ -1,6 +1,6 @@
 -- The settings after a list of commands. For each attribute the last command that sets it decides, of those
 -- after the last Init; where none sets it, it has its power-on value. (Reference: ESC SP, ESC !, ESC -, ESC E,
--- ESC G, ESC M, ESC R, ESC a, ESC t, ESC {, ESC 2, ESC 3, GS !, GS B, GS h, GS w, GS H, GS f, GS ( k, ESC @.)
+-- ESC G, ESC M, ESC R, ESC a, ESC r, ESC t, ESC {, ESC 2, ESC 3, GS !, GS B, GS h, GS w, GS H, GS f, GS ( k, ESC @.)
 use Rattle.std.specs.Prelude.{ℕ, ◌==◌, ◌&&◌, not, Bool, true, false, List, [], ◌∷◌, Option, None, Some, if◌then◌else◌}
 use Rattle.std.specs.Option.{unwrap_or}
 use Rattle.escpos_command.specs.declared.command.Command.{Command}
@@ -72,6 +72,11 @@ abbrev pub sets_character_spacing : Command → Option ℕ
 sets_character_spacing (kind.Set (sets.CharacterSpacing, p)) = Some (value p)
 sets_character_spacing _ = None
 
+-- The number of the colour: 0, or 1 for the second one.
+abbrev pub sets_color : Command → Option ℕ
+sets_color (kind.Set (sets.Color, p)) = Some (choice (value p))
+sets_color _ = None
+
 abbrev pub sets_alignment : Command → Option Alignment
 sets_alignment (kind.Set (sets.Align, p)) = Some (alignment_of (choice (value p)))
 sets_alignment _ = None
@@ -127,6 +132,7 @@ power_on = record {
   reverse = false;
   character_set = 0;
   spacing = 0;
+  color = 0;
 }
 
 -- All its settings. Init restores them.
@@ -149,11 +155,18 @@ abbrev pub same_flag : Bool → Bool → Bool
 same_flag true b = b
 same_flag false b = not b
 
-abbrev pub same_style : Style → Style → Bool
-same_style s t =
+abbrev pub same_look : Style → Style → Bool
+same_look s t =
     s.table == t.table && same_face s.font t.font && s.width == t.width && s.height == t.height && same_flag s.bold t.bold
-    && s.underline == t.underline && same_flag s.strike t.strike && same_flag s.reverse t.reverse && s.character_set == t.character_set
-    && s.spacing == t.spacing
+    && s.underline == t.underline
+
+abbrev pub same_marks : Style → Style → Bool
+same_marks s t =
+    same_flag s.strike t.strike && same_flag s.reverse t.reverse && s.character_set == t.character_set && s.spacing == t.spacing
+    && s.color == t.color
+
+abbrev pub same_style : Style → Style → Bool
+same_style s t = same_look s t && same_marks s t
 
 -- The style that a character after the commands gets.
 abbrev pub style : List Command → Style
@@ -168,6 +181,7 @@ style cs = record {
   reverse = setting sets_reverse power_on.reverse cs;
   character_set = setting sets_character_set power_on.character_set cs;
   spacing = setting sets_character_spacing power_on.spacing cs;
+  color = setting sets_color power_on.color cs;
 }
 
 -- The value of an attribute after a command.
@@ -187,6 +201,7 @@ style_after s c = record {
   reverse = set_after sets_reverse power_on.reverse s.reverse c;
   character_set = set_after sets_character_set power_on.character_set s.character_set c;
   spacing = set_after sets_character_spacing power_on.spacing s.spacing c;
+  color = set_after sets_color power_on.color s.color c;
 }
 
 -- The settings that a barcode after the commands gets.

@@ -4,7 +4,7 @@
 ghost use Rattle.std.specs.Prelude.{◌≡◌, ◌↔◌, ◌≤◌, IsTrue, Some};
 ghost use Rattle.escpos_command.specs.declared.command.Command.TheVariants as command;
 ghost use Rattle.escpos_command.specs.declared.setting.SettingKind.TheVariants as sets;
-ghost use Rattle.escpos_paper.specs.Styles.{power_on, power_on_settings, same_style, style_after};
+ghost use Rattle.escpos_paper.specs.Styles.{power_on, power_on_settings, same_look, same_marks, same_style, style_after};
 ghost use Rattle.escpos_paper.specs.Cells.{cell, style_dots};
 ghost use Rattle.escpos_paper.specs.Steps.{line_style_after};
 
@@ -74,11 +74,13 @@ pub struct Style {
     pub character_set: u8,
     /// The space to the right of a character, in dots at width 1.
     pub spacing: u8,
+    /// The number of the colour: 0, or 1 for the second one.
+    pub color: u8,
 }
 
 impl Style {
     /// The style of a printer just switched on: table 0, font A, size 1 by 1, no emphasis, no underline, no
-    /// double strike, black on white, character set 0, no space between characters.
+    /// double strike, black on white, character set 0, no space between characters, the first colour.
     pub fn power_on() -> Self
         ensures { result ≡ power_on }
     {
@@ -93,6 +95,7 @@ impl Style {
             reverse: false,
             character_set: 0,
             spacing: 0,
+            color: 0,
         }
     }
 
@@ -118,16 +121,36 @@ impl Style {
         ensures same { IsTrue result ↔ (self.now ≡ other.now) }
     {
         // Not `&&`: so the compiler compares eight bytes at once, and this is asked for each character.
+        self.has_same_look(other) & self.has_same_marks(other)
+    }
+
+    // Whether all fields up to the underline are the same.
+    #[inline]
+    fn has_same_look(&self, other: &Style) -> bool
+        ensures value { result ≡ same_look self.now other.now }
+        ensures same { IsTrue result ↔ ((self.now.table ≡ other.now.table) × (self.now.font ≡ other.now.font) × (self.now.width ≡ other.now.width)
+            × (self.now.height ≡ other.now.height) × (self.now.bold ≡ other.now.bold) × (self.now.underline ≡ other.now.underline)) }
+    {
         (self.table == other.table)
             & (self.font == other.font)
             & (self.width == other.width)
             & (self.height == other.height)
             & (self.bold == other.bold)
             & (self.underline == other.underline)
-            & (self.strike == other.strike)
+    }
+
+    // Whether all fields after the underline are the same.
+    #[inline]
+    fn has_same_marks(&self, other: &Style) -> bool
+        ensures value { result ≡ same_marks self.now other.now }
+        ensures same { IsTrue result ↔ ((self.now.strike ≡ other.now.strike) × (self.now.reverse ≡ other.now.reverse)
+            × (self.now.character_set ≡ other.now.character_set) × (self.now.spacing ≡ other.now.spacing) × (self.now.color ≡ other.now.color)) }
+    {
+        (self.strike == other.strike)
             & (self.reverse == other.reverse)
             & (self.character_set == other.character_set)
             & (self.spacing == other.spacing)
+            & (self.color == other.color)
     }
 
     /// The style after a setting of this kind with this parameter. One that sets nothing of a character leaves it.
@@ -168,6 +191,10 @@ impl Style {
             },
             SettingKind::CharacterSpacing => Style {
                 spacing: value,
+                ..self
+            },
+            SettingKind::Color => Style {
+                color: choice(value),
                 ..self
             },
             _ => self,

@@ -9,7 +9,7 @@ ghost use Rattle.escpos_command.specs.QrCodes.{most_qr_data};
 ghost use Rattle.escpos_io.specs.Giving.{IsGiven};
 ghost use Rattle.escpos_io.specs.Putting.{passage};
 ghost use Rattle.escpos_paper.specs.Styles.{power_on};
-ghost use Rattle.escpos_paper.specs.ItemsText.{spacing_field, is_plain, byte_text, style_text, face_name, flag_text, six_fields, has_six_fields, further_fields, cell_text, cells_text, align_name, symbology_name, place_name, scale_name, settings_text, content_text, correction_name, cut_name, upside_text, spacing_text, item_text};
+ghost use Rattle.escpos_paper.specs.ItemsText.{color_field, spacing_field, is_plain, byte_text, style_text, face_name, flag_text, six_fields, has_six_fields, further_fields, cell_text, cells_text, align_name, symbology_name, place_name, scale_name, settings_text, content_text, correction_name, cut_name, upside_text, spacing_text, item_text};
 ghost use Rattle.escpos_paper.specs.ItemParts.{front, dots_of, characters_of};
 
 use crate::cell::{Cell, Cells};
@@ -24,10 +24,10 @@ use escpos_io::{
 use itoa::Buffer;
 
 /// The most bytes of a line that are appended to a gather at once: all but the dots of a raster. (A row has at most 113
-/// cells of at most 36 bytes, a barcode a content of at most 255 characters of at most 3 bytes.)
-const LINE_BYTES: usize = 4096;
+/// cells of at most 40 bytes, a barcode a content of at most 255 characters of at most 3 bytes.)
+const LINE_BYTES: usize = 5120;
 
-const _: () = prove!(LINE_BYTES == 4096);
+const _: () = prove!(LINE_BYTES == 5120);
 
 /// An item is put as its line.
 impl Piece for Item {
@@ -321,10 +321,10 @@ fn append_spacing(gather: &mut Gather, spacing: Option<u8>)
 
 // Appends the cells of a row.
 fn append_cells(gather: &mut Gather, cells: &Cells)
-    requires { length gather.old.kept + 4068 ≤ GATHERED_BYTES }
+    requires { length gather.old.kept + 4520 ≤ GATHERED_BYTES }
     ensures kept { gather.new.kept ≡ gather.old.kept ++ cells_text power_on cells.now }
     ensures same_count { gather.new.written ≡ gather.old.written }
-    ensures short { length (cells_text power_on cells.now) ≤ 4068 }
+    ensures short { length (cells_text power_on cells.now) ≤ 4520 }
 {
     let row = cells.as_slice();
     let mut before = Style::power_on();
@@ -337,10 +337,10 @@ fn append_cells(gather: &mut Gather, cells: &Cells)
 // Appends a cell that follows one of the style `before`.
 #[inline]
 fn append_cell(gather: &mut Gather, before: &Style, cell: &Cell)
-    requires { length gather.old.kept + 36 ≤ GATHERED_BYTES }
+    requires { length gather.old.kept + 40 ≤ GATHERED_BYTES }
     ensures kept { gather.new.kept ≡ gather.old.kept ++ cell_text before.now cell.now }
     ensures same_count { gather.new.written ≡ gather.old.written }
-    ensures short { length (cell_text before.now cell.now) ≤ 36 }
+    ensures short { length (cell_text before.now cell.now) ≤ 40 }
 {
     if !before.is_same(&cell.style) {
         append_style(gather, &cell.style);
@@ -350,10 +350,10 @@ fn append_cell(gather: &mut Gather, before: &Style, cell: &Cell)
 
 #[inline(never)]
 fn append_style(gather: &mut Gather, style: &Style)
-    requires { length gather.old.kept + 33 ≤ GATHERED_BYTES }
+    requires { length gather.old.kept + 37 ≤ GATHERED_BYTES }
     ensures kept { gather.new.kept ≡ gather.old.kept ++ style_text style.now }
     ensures same_count { gather.new.written ≡ gather.old.written }
-    ensures short { length (style_text style.now) ≤ 33 }
+    ensures short { length (style_text style.now) ≤ 37 }
 {
     gather.push(b'[');
     append_six_fields(gather, style);
@@ -376,12 +376,12 @@ fn append_six_fields(gather: &mut Gather, style: &Style)
     append_attribute(gather, style.table);
 }
 
-// Appends the fields for strike, reverse, character set and spacing, unless these are as at power on.
+// Appends the fields for strike, reverse, character set, spacing and colour, unless these are as at power on.
 fn append_further_fields(gather: &mut Gather, style: &Style)
-    requires { length gather.old.kept + 12 ≤ GATHERED_BYTES }
+    requires { length gather.old.kept + 16 ≤ GATHERED_BYTES }
     ensures kept { gather.new.kept ≡ gather.old.kept ++ further_fields style.now }
     ensures same_count { gather.new.written ≡ gather.old.written }
-    ensures short { length (further_fields style.now) ≤ 12 }
+    ensures short { length (further_fields style.now) ≤ 16 }
 {
     if has_six_fields(style) {
         return;
@@ -394,23 +394,41 @@ fn append_further_fields(gather: &mut Gather, style: &Style)
     append_character_spacing(gather, style);
 }
 
-// Appends the field for the space to the right of a character, where there is one.
+// Appends the fields for the space to the right of a character and for its colour, where they are due.
 fn append_character_spacing(gather: &mut Gather, style: &Style)
-    requires { length gather.old.kept + 4 ≤ GATHERED_BYTES }
+    requires { length gather.old.kept + 8 ≤ GATHERED_BYTES }
     ensures kept { gather.new.kept ≡ gather.old.kept ++ spacing_field style.now }
     ensures same_count { gather.new.written ≡ gather.old.written }
-    ensures short { length (spacing_field style.now) ≤ 4 }
+    ensures short { length (spacing_field style.now) ≤ 8 }
 {
-    if style.spacing != 0 {
-        append_attribute(gather, style.spacing);
+    if style.spacing == 0 && style.color == 0 {
+        return;
+    }
+    append_attribute(gather, style.spacing);
+    append_color(gather, style);
+}
+
+// Appends the field for a second colour.
+fn append_color(gather: &mut Gather, style: &Style)
+    requires { length gather.old.kept + 4 ≤ GATHERED_BYTES }
+    ensures kept { gather.new.kept ≡ gather.old.kept ++ color_field style.now }
+    ensures same_count { gather.new.written ≡ gather.old.written }
+    ensures short { length (color_field style.now) ≤ 4 }
+{
+    if style.color != 0 {
+        append_attribute(gather, style.color);
     }
 }
 
-// Whether strike, reverse, character set and spacing are as at power on.
+// Whether strike, reverse, character set, spacing and colour are as at power on.
 fn has_six_fields(style: &Style) -> bool
     ensures { result ≡ has_six_fields style.now }
 {
-    !style.strike && !style.reverse && style.character_set == 0 && style.spacing == 0
+    !style.strike
+        && !style.reverse
+        && style.character_set == 0
+        && style.spacing == 0
+        && style.color == 0
 }
 
 fn face_name(face: FontFace) -> &'static [u8]

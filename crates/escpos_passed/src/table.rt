@@ -82,7 +82,7 @@ const COUNT_BYTE: Counted = Counted {
 };
 
 /// How many rows there are.
-pub const COUNT: usize = 125;
+pub const COUNT: usize = 124;
 
 // A row for each line: its prefix, how the length of what follows is told, and the third byte with which it isn't the command.
 macro_rules! rows {
@@ -171,8 +171,6 @@ pub const TABLE: [Row; COUNT] = rows! {
     Prefix::Two(ESC, b'm'), Form::Fixed(0), None;
     // ESC q
     Prefix::Two(ESC, b'q'), Form::Fixed(0), None;
-    // ESC r
-    Prefix::Two(ESC, b'r'), Form::Fixed(1), None;
     // ESC u
     Prefix::Two(ESC, b'u'), Form::Fixed(1), None;
     // ESC v

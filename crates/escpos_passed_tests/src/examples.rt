@@ -4,7 +4,7 @@ use escpos_passed::{Found, find};
 use std::process::Abort;
 
 // A whole command each: single bytes, real-time requests, and those that begin with ESC.
-const ESC_EXAMPLES: [(&str, &[u8]); 43] = [
+const ESC_EXAMPLES: [(&str, &[u8]); 42] = [
     ("HT", b"\x09"),
     ("FF", b"\x0C"),
     ("DLE EOT", b"\x10\x04\x05"),
@@ -45,7 +45,6 @@ const ESC_EXAMPLES: [(&str, &[u8]); 43] = [
     ("ESC l", b"\x1B\x6C\x04"),
     ("ESC m", b"\x1B\x6D"),
     ("ESC q", b"\x1B\x71"),
-    ("ESC r", b"\x1B\x72\x01"),
     ("ESC u", b"\x1B\x75\x00"),
     ("ESC v", b"\x1B\x76"),
 ];

@@ -25,7 +25,7 @@ use Rattle.escpos_picture.specs.Places.{top, place_after_all, feed_depth}
 use Rattle.escpos_picture.specs.Spans.{span, spans, byte_dots}
 use Rattle.escpos_picture.specs.Steps.{begin, along, back, finish, square, off_path, covered_by, black_squares}
 use Rattle.escpos_picture.specs.Rasters.{rows_of, raster_steps, rows_text}
-use Rattle.escpos_picture.specs.Rows.{runs, text_place, text_class, characters_text, text_start, run_tag, underline_text, ground_text, run_drawing, runs_drawing}
+use Rattle.escpos_picture.specs.Rows.{runs, text_place, text_class, characters_text, text_start, run_tag, underline_text, ground_text, run_marks, run_drawing, runs_drawing}
 use Rattle.escpos_picture.specs.BarItems.{label_place, label_tag, label, label_above, label_below, bars_frame, bars_group, scannable, box_frame, box_text, box}
 use Rattle.escpos_picture.specs.Groups.{cut_line, scale_text, raster_start, drawing, drawings, drawing_at}
 use Rattle.escpos_picture.specs.Document.{style_sheet, root_tag, paper_tag, head, last_tag, picture_text}
@@ -69,13 +69,13 @@ receipt_drawn : drawings (top 512) receipt ≡
     codes "<g class=\"row\" transform=\"translate(32,50)\"><text x=\"0\" textLength=\"24\">Hi</text></g>\n<g class=\"feed\"/>\n"
     ++ codes "<g class=\"cut\" transform=\"translate(0,62)\"><circle cx=\"8\" cy=\"6\" r=\"4\"/><circle cx=\"8\" cy=\"18\" r=\"4\"/>"
     ++ codes "<path d=\"M11 9L28 18M11 15L28 6\"/><path class=\"dashes\" d=\"M32 12H576\"/></g>\n"
-unfolding receipt text digits encode_utf8 runs text_place text_class text_start run_tag underline_text run_drawing runs_drawing drawing drawings reads reads_low reads_high exchanged_bytes characters_in character_sets characters_of code_tables
+unfolding receipt text digits encode_utf8 runs text_place text_class text_start run_tag underline_text run_marks run_drawing runs_drawing drawing drawings reads reads_low reads_high exchanged_bytes characters_in character_sets characters_of code_tables
 receipt_drawn = refl
 
 receipt_height : picture_text 512 receipt [] ≡
     codes "<svg xmlns=\"http://www.w3.org/2000/svg\" version=\"1.1\" width=\"576\" height=\"118\" viewBox=\"0 0 576 118\" xml:space=\"preserve\">\n"
     ++ style_sheet 512 ++ codes "<rect class=\"paper\" width=\"576\" height=\"118\"/>\n" ++ drawings (top 512) receipt ++ codes "</svg>\n"
-unfolding receipt text digits encode_utf8 style_sheet root_tag paper_tag head runs text_place text_class text_start run_tag underline_text run_drawing runs_drawing drawing drawings reads reads_low reads_high exchanged_bytes characters_in character_sets characters_of code_tables
+unfolding receipt text digits encode_utf8 style_sheet root_tag paper_tag head runs text_place text_class text_start run_tag underline_text run_marks run_drawing runs_drawing drawing drawings reads reads_low reads_high exchanged_bytes characters_in character_sets characters_of code_tables
 receipt_height = refl
 
 -- ## Rows, each as the first item of a paper
@@ -83,74 +83,80 @@ receipt_height = refl
 -- Font B: 9 by 17 dots, the base line 12.75 down.
 font_b : drawing_at 512 0 (Row Left false (text (record power_on { font = B }) (codes "Hi"))) ≡
     codes "<g class=\"row\" transform=\"translate(32,44.75)\"><text x=\"0\" class=\"B\" textLength=\"18\">Hi</text></g>\n"
-unfolding text digits encode_utf8 runs text_place text_class text_start run_tag underline_text run_drawing runs_drawing reads reads_low reads_high exchanged_bytes characters_in character_sets characters_of code_tables
+unfolding text digits encode_utf8 runs text_place text_class text_start run_tag underline_text run_marks run_drawing runs_drawing reads reads_low reads_high exchanged_bytes characters_in character_sets characters_of code_tables
 font_b = refl
 
 -- Twice as wide and high, in the middle: 48 by 48 dots, (512 - 48) / 2 dots free on the left.
 double : drawing_at 512 0 (Row Center false (text (record power_on { width = 2; height = 2 }) (codes "Hi"))) ≡
     codes "<g class=\"row\" transform=\"translate(264,68)\"><text transform=\"matrix(2 0 0 2 0 0)\" textLength=\"24\">Hi</text></g>\n"
-unfolding text digits encode_utf8 runs text_place text_class text_start run_tag underline_text run_drawing runs_drawing reads reads_low reads_high exchanged_bytes characters_in character_sets characters_of code_tables
+unfolding text digits encode_utf8 runs text_place text_class text_start run_tag underline_text run_marks run_drawing runs_drawing reads reads_low reads_high exchanged_bytes characters_in character_sets characters_of code_tables
 double = refl
 
 -- Bold at the right end, 512 - 24 dots free on the left.
 bold : drawing_at 512 0 (Row Right false (text (record power_on { bold = true }) (codes "Hi"))) ≡
     codes "<g class=\"row\" transform=\"translate(520,50)\"><text x=\"0\" class=\"bold\" textLength=\"24\">Hi</text></g>\n"
-unfolding text digits encode_utf8 runs text_place text_class text_start run_tag underline_text run_drawing runs_drawing reads reads_low reads_high exchanged_bytes characters_in character_sets characters_of code_tables
+unfolding text digits encode_utf8 runs text_place text_class text_start run_tag underline_text run_marks run_drawing runs_drawing reads reads_low reads_high exchanged_bytes characters_in character_sets characters_of code_tables
 bold = refl
 
 -- The same at the right end of a line of 1,024 dots.
 wide_paper : drawing_at 1024 0 (Row Right false (text (record power_on { bold = true }) (codes "Hi"))) ≡
     codes "<g class=\"row\" transform=\"translate(1032,50)\"><text x=\"0\" class=\"bold\" textLength=\"24\">Hi</text></g>\n"
-unfolding text digits encode_utf8 runs text_place text_class text_start run_tag underline_text run_drawing runs_drawing reads reads_low reads_high exchanged_bytes characters_in character_sets characters_of code_tables
+unfolding text digits encode_utf8 runs text_place text_class text_start run_tag underline_text run_marks run_drawing runs_drawing reads reads_low reads_high exchanged_bytes characters_in character_sets characters_of code_tables
 wide_paper = refl
 
 -- Double strike is bold, too, beside emphasis and alone; a character set changes nothing.
 strike : drawing_at 512 0 (Row Left false (text (record power_on { font = B; strike = true; character_set = 8 }) (codes "Hi"))) ≡
     codes "<g class=\"row\" transform=\"translate(32,44.75)\"><text x=\"0\" class=\"B bold\" textLength=\"18\">Hi</text></g>\n"
-unfolding text digits encode_utf8 runs text_place text_class text_start run_tag underline_text run_drawing runs_drawing reads reads_low reads_high exchanged_bytes characters_in character_sets characters_of code_tables
+unfolding text digits encode_utf8 runs text_place text_class text_start run_tag underline_text run_marks run_drawing runs_drawing reads reads_low reads_high exchanged_bytes characters_in character_sets characters_of code_tables
 strike = refl
 
 -- White on black: the ground is as wide and high as the cells, across blanks, too; no underline.
 reverse : drawing_at 512 0 (Row Left false (text (record power_on { reverse = true; underline = 2; bold = true }) (codes "a b"))) ≡
     codes "<g class=\"row\" transform=\"translate(32,50)\"><path d=\"M0 -18h36v24h-36z\"/><text x=\"0\" class=\"bold white\" textLength=\"36\">a b</text></g>\n"
-unfolding text digits encode_utf8 runs text_place text_class text_start run_tag ground_text run_drawing runs_drawing reads reads_low reads_high exchanged_bytes characters_in character_sets characters_of code_tables
+unfolding text digits encode_utf8 runs text_place text_class text_start run_tag ground_text run_marks run_drawing runs_drawing reads reads_low reads_high exchanged_bytes characters_in character_sets characters_of code_tables
 reverse = refl
 
 reverse_high : drawing_at 512 0 (Row Left false (text power_on (codes "A") ++ text (record power_on { font = B; width = 2; height = 3; reverse = true }) (codes "b"))) ≡
     codes "<g class=\"row\" transform=\"translate(32,70.25)\"><text x=\"0\" textLength=\"12\">A</text>"
     ++ codes "<path d=\"M12 -38.25h18v51h-18z\"/><text transform=\"matrix(2 0 0 3 12 0)\" class=\"B white\" textLength=\"9\">b</text></g>\n"
-unfolding text digits encode_utf8 runs text_place text_class text_start run_tag underline_text ground_text run_drawing runs_drawing reads reads_low reads_high exchanged_bytes characters_in character_sets characters_of code_tables
+unfolding text digits encode_utf8 runs text_place text_class text_start run_tag underline_text ground_text run_marks run_drawing runs_drawing reads reads_low reads_high exchanged_bytes characters_in character_sets characters_of code_tables
 reverse_high = refl
 
 -- A row upside down is turned with its line: what stands left stands right then, and its base line is a quarter of its height down.
 upside_down : drawing_at 512 0 (Row Left true (text power_on (codes "Hi"))) ≡
     codes "<g class=\"row\" transform=\"translate(544,38) rotate(180)\"><text x=\"0\" textLength=\"24\">Hi</text></g>\n"
-unfolding text digits encode_utf8 runs text_place text_class text_start run_tag underline_text run_drawing runs_drawing reads reads_low reads_high exchanged_bytes characters_in character_sets characters_of code_tables
+unfolding text digits encode_utf8 runs text_place text_class text_start run_tag underline_text run_marks run_drawing runs_drawing reads reads_low reads_high exchanged_bytes characters_in character_sets characters_of code_tables
 upside_down = refl
 
 upside_down_right : drawing_at 512 120 (Row Right true (text (record power_on { height = 2 }) (codes "Hi"))) ≡
     codes "<g class=\"row\" transform=\"translate(56,74) rotate(180)\"><text transform=\"matrix(1 0 0 2 0 0)\" textLength=\"24\">Hi</text></g>\n"
-unfolding text digits encode_utf8 runs text_place text_class text_start run_tag underline_text run_drawing runs_drawing reads reads_low reads_high exchanged_bytes characters_in character_sets characters_of code_tables
+unfolding text digits encode_utf8 runs text_place text_class text_start run_tag underline_text run_marks run_drawing runs_drawing reads reads_low reads_high exchanged_bytes characters_in character_sets characters_of code_tables
 upside_down_right = refl
 
 -- Underlines go across blanks, and end where the cells do, a quarter of 24 and of 17 dots under the base line.
 underline : drawing_at 512 0 (Row Left false (text (record power_on { underline = 1 }) (codes "a b"))) ≡
     codes "<g class=\"row\" transform=\"translate(32,50)\"><text x=\"0\" textLength=\"36\">a b</text><path d=\"M0 5h36v1h-36z\"/></g>\n"
-unfolding text digits encode_utf8 runs text_place text_class text_start run_tag underline_text run_drawing runs_drawing reads reads_low reads_high exchanged_bytes characters_in character_sets characters_of code_tables
+unfolding text digits encode_utf8 runs text_place text_class text_start run_tag underline_text run_marks run_drawing runs_drawing reads reads_low reads_high exchanged_bytes characters_in character_sets characters_of code_tables
 underline = refl
 
 thick_underline : drawing_at 512 0 (Row Left false (text (record power_on { font = B; bold = true; underline = 2 }) (codes "a b"))) ≡
     codes "<g class=\"row\" transform=\"translate(32,44.75)\"><text x=\"0\" class=\"B bold\" textLength=\"27\">a b</text>"
     ++ codes "<path d=\"M0 2.25h27v2h-27z\"/></g>\n"
-unfolding text digits encode_utf8 runs text_place text_class text_start run_tag underline_text run_drawing runs_drawing reads reads_low reads_high exchanged_bytes characters_in character_sets characters_of code_tables
+unfolding text digits encode_utf8 runs text_place text_class text_start run_tag underline_text run_marks run_drawing runs_drawing reads reads_low reads_high exchanged_bytes characters_in character_sets characters_of code_tables
 thick_underline = refl
 
 -- Two styles: the second text begins where the first ends, and both stand on the base line of the taller.
 two_styles : drawing_at 512 0 (Row Left false (text power_on (codes "A&") ++ text (record power_on { height = 2 }) (codes "b"))) ≡
     codes "<g class=\"row\" transform=\"translate(32,68)\"><text x=\"0\" textLength=\"24\">A&amp;</text>"
     ++ codes "<text transform=\"matrix(1 0 0 2 24 0)\" textLength=\"12\">b</text></g>\n"
-unfolding text digits encode_utf8 runs text_place text_class text_start run_tag underline_text run_drawing runs_drawing reads reads_low reads_high exchanged_bytes characters_in character_sets characters_of code_tables
+unfolding text digits encode_utf8 runs text_place text_class text_start run_tag underline_text run_marks run_drawing runs_drawing reads reads_low reads_high exchanged_bytes characters_in character_sets characters_of code_tables
 two_styles = refl
+
+-- A second colour: what would be black has it.
+second_color : drawing_at 512 0 (Row Left false (text (record power_on { color = 1 }) (codes "A"))) ≡
+    codes "<g class=\"row\" transform=\"translate(32,50)\"><g class=\"second\"><text x=\"0\" textLength=\"12\">A</text></g></g>\n"
+unfolding text digits encode_utf8 runs text_place text_class text_start run_tag underline_text run_marks run_drawing runs_drawing reads reads_low reads_high exchanged_bytes characters_in character_sets characters_of code_tables
+second_color = refl
 
 -- ## Characters, in UTF-8
 
@@ -363,19 +369,19 @@ too_long = refl
 wide_alone : drawing_at 512 40 (Row Left false (text (record power_on { width = 2; underline = 1 }) (codes "ab") ++ text power_on (codes "c"))) ≡
     codes "<g class=\"row\" transform=\"translate(32,60)\"><text transform=\"matrix(2 0 0 1 0 0)\" textLength=\"24\">ab</text><path d=\"M0 5h48v1h-48z\"/>"
     ++ codes "<text x=\"48\" textLength=\"12\">c</text></g>\n"
-unfolding text digits encode_utf8 runs text_place text_class text_start run_tag underline_text run_drawing runs_drawing reads reads_low reads_high exchanged_bytes characters_in character_sets characters_of code_tables
+unfolding text digits encode_utf8 runs text_place text_class text_start run_tag underline_text run_marks run_drawing runs_drawing reads reads_low reads_high exchanged_bytes characters_in character_sets characters_of code_tables
 wide_alone = refl
 
 -- Twice as high: the underline ends 12 dots under the base line, where the cell does.
 tall_underline : drawing_at 512 0 (Row Left false (text (record power_on { height = 2; underline = 2 }) (codes "a"))) ≡
     codes "<g class=\"row\" transform=\"translate(32,68)\"><text transform=\"matrix(1 0 0 2 0 0)\" textLength=\"12\">a</text><path d=\"M0 10h12v2h-12z\"/></g>\n"
-unfolding text digits encode_utf8 runs text_place text_class text_start run_tag underline_text run_drawing runs_drawing reads reads_low reads_high exchanged_bytes characters_in character_sets characters_of code_tables
+unfolding text digits encode_utf8 runs text_place text_class text_start run_tag underline_text run_marks run_drawing runs_drawing reads reads_low reads_high exchanged_bytes characters_in character_sets characters_of code_tables
 tall_underline = refl
 
 -- A row has the code table of its style: D5 in table 19 is the euro sign.
 table_19 : drawing_at 512 0 (Row Left false (text (record power_on { table = 19 }) (0xD5 ∷ []))) ≡
     codes "<g class=\"row\" transform=\"translate(32,50)\"><text x=\"0\" textLength=\"12\">" ++ 0xE2 ∷ 0x82 ∷ 0xAC ∷ codes "</text></g>\n"
-unfolding text digits encode_utf8 runs text_place text_class text_start run_tag underline_text run_drawing runs_drawing reads reads_low reads_high exchanged_bytes characters_in character_sets characters_of code_tables
+unfolding text digits encode_utf8 runs text_place text_class text_start run_tag underline_text run_marks run_drawing runs_drawing reads reads_low reads_high exchanged_bytes characters_in character_sets characters_of code_tables
 table_19 = refl
 
 -- A whole raster, 30 dots down.

@@ -23,7 +23,7 @@ document_height down has_last = if has_last then paper_height down + 160 else pa
 unfoldable pub style_sheet : ℕ → List ℕ
 style_sheet line_dots =
     codes "<style type=\"text/css\">\n.paper{fill:#fff}\ntext{font-family:\"DejaVu Sans Mono\",Menlo,Consolas,monospace;font-size:20px;white-space:pre}\n"
-    ++ codes ".B{font-size:15px}\n.bold{font-weight:bold}\n.white{fill:#fff}\n.middle{text-anchor:middle}\n.bars path,.raster path{stroke:#000;shape-rendering:crispEdges}\n"
+    ++ codes ".B{font-size:15px}\n.bold{font-weight:bold}\n.white{fill:#fff}\n.second{fill:#c00}\n.middle{text-anchor:middle}\n.bars path,.raster path{stroke:#000;shape-rendering:crispEdges}\n"
     ++ codes ".raster{clip-path:url(#line)}\n.box,.cut circle,.cut path{fill:none;stroke:#000;stroke-width:2}\n.dashes{stroke-dasharray:8 6}\n.last{fill:#a00}\n</style>\n"
     ++ codes "<clipPath id=\"line\"><path d=\"M0 0h" ++ decimal line_dots ++ codes "v8190H0z\"/></clipPath>\n"
 

@@ -94,8 +94,12 @@ ground_text x r =
     ++ codes "v" ++ decimal (face_height r.style.font * r.style.height) ++ codes "h-" ++ decimal (run_dots r) ++ codes "z\"/>"
 
 -- White characters stand on black ground, and aren't underlined. (Reference: GS B.)
+unfoldable pub run_marks : ℕ → Run → List ℕ
+run_marks x r = if r.style.reverse then ground_text x r ++ run_text x r else run_text x r ++ underline_text x r
+
+-- All that is black has the second colour where the run has that. (Reference: ESC r.)
 unfoldable pub run_drawing : ℕ → Run → List ℕ
-run_drawing x r = if r.style.reverse then ground_text x r ++ run_text x r else run_text x r ++ underline_text x r
+run_drawing x r = if r.style.color == 0 then run_marks x r else codes "<g class=\"second\">" ++ run_marks x r ++ codes "</g>"
 
 -- Runs from left to right, the first this many dots from the left end of the row.
 unfoldable pub runs_drawing : ℕ → List Run → List ℕ

@@ -20,7 +20,7 @@ const _: () = prove!(LAST_TAG_BYTES == 64);
 
 // The style sheet, and the beginning of the clip of rasters: dots beyond the line aren't printed.
 const STYLE_SHEET: &[u8] =
-    b"<style type=\"text/css\">\n.paper{fill:#fff}\ntext{font-family:\"DejaVu Sans Mono\",Menlo,Consolas,monospace;font-size:20px;white-space:pre}\n.B{font-size:15px}\n.bold{font-weight:bold}\n.white{fill:#fff}\n.middle{text-anchor:middle}\n.bars path,.raster path{stroke:#000;shape-rendering:crispEdges}\n.raster{clip-path:url(#line)}\n.box,.cut circle,.cut path{fill:none;stroke:#000;stroke-width:2}\n.dashes{stroke-dasharray:8 6}\n.last{fill:#a00}\n</style>\n<clipPath id=\"line\"><path d=\"M0 0h";
+    b"<style type=\"text/css\">\n.paper{fill:#fff}\ntext{font-family:\"DejaVu Sans Mono\",Menlo,Consolas,monospace;font-size:20px;white-space:pre}\n.B{font-size:15px}\n.bold{font-weight:bold}\n.white{fill:#fff}\n.second{fill:#c00}\n.middle{text-anchor:middle}\n.bars path,.raster path{stroke:#000;shape-rendering:crispEdges}\n.raster{clip-path:url(#line)}\n.box,.cut circle,.cut path{fill:none;stroke:#000;stroke-width:2}\n.dashes{stroke-dasharray:8 6}\n.last{fill:#a00}\n</style>\n<clipPath id=\"line\"><path d=\"M0 0h";
 
 // The end of that clip.
 const CLIP_END: &[u8] = b"v8190H0z\"/></clipPath>\n";

@@ -5,7 +5,7 @@ ghost use Rattle.escpos_command.specs.declared.line_width.TheConstants.{MOST_LIN
 ghost use Rattle.escpos_io.specs.Giving.{IsGiven};
 ghost use Rattle.escpos_io.specs.Putting.{passage};
 ghost use Rattle.escpos_paper.specs.Cells.{dots, face_dots};
-ghost use Rattle.escpos_picture.specs.Rows.{run, runs, bytes_of, same_count, is_plain_size, scaled_place, text_place, text_class, characters_text, underline_text, text_start, run_tag, run_text, ground_text, run_drawing, runs_drawing};
+ghost use Rattle.escpos_picture.specs.Rows.{run, runs, bytes_of, same_count, is_plain_size, scaled_place, text_place, text_class, characters_text, underline_text, text_start, run_tag, run_text, ground_text, run_marks, run_drawing, runs_drawing};
 ghost use Rattle.escpos_picture.specs.Groups.{row_drawing, row_tag, base_line, row_start, row_turn};
 
 use crate::characters::append_byte;
@@ -162,12 +162,30 @@ fn same_count(style: &Style, cells: &[Cell]) -> usize
     count
 }
 
-// Appends cells of one style, this many dots from the left end of the row: white on black, or with their underline.
+// Appends cells of one style, this many dots from the left end of the row, in their colour.
 #[tactic(auto, unfolding(crate::specs::Rows::run_drawing))]
 fn append_run(gather: &mut Gather, x: usize, style: &Style, cells: &[Cell])
     requires few { length cells.now ≤ LINE_CELLS }
-    requires room { length gather.old.kept + 256 + 6 * length cells.now ≤ GATHERED_BYTES }
+    requires room { length gather.old.kept + 288 + 6 * length cells.now ≤ GATHERED_BYTES }
     ensures kept { gather.new.kept ≡ gather.old.kept ++ run_drawing x (run style.now (bytes_of cells.now)) }
+    ensures same_count { gather.new.written ≡ gather.old.written }
+    ensures short { length gather.new.kept ≤ length gather.old.kept + 288 + 6 * length cells.now }
+{
+    if style.color == 0 {
+        append_marks(gather, x, style, cells);
+    } else {
+        gather.extend(b"<g class=\"second\">");
+        append_marks(gather, x, style, cells);
+        gather.extend(b"</g>");
+    }
+}
+
+// Appends cells of one style: white on black, or with their underline.
+#[tactic(auto, unfolding(crate::specs::Rows::run_marks))]
+fn append_marks(gather: &mut Gather, x: usize, style: &Style, cells: &[Cell])
+    requires few { length cells.now ≤ LINE_CELLS }
+    requires room { length gather.old.kept + 256 + 6 * length cells.now ≤ GATHERED_BYTES }
+    ensures kept { gather.new.kept ≡ gather.old.kept ++ run_marks x (run style.now (bytes_of cells.now)) }
     ensures same_count { gather.new.written ≡ gather.old.written }
     ensures short { length gather.new.kept ≤ length gather.old.kept + 256 + 6 * length cells.now }
 {

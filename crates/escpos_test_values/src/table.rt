@@ -1,7 +1,7 @@
 //! The command table, a spelling for each row.
 
 // A spelling of each row of the command table, with a barcode of each symbology in each form.
-const SPELLINGS: [&[u8]; 58] = [
+const SPELLINGS: [&[u8]; 59] = [
     b"A",
     b"\x0A",
     b"\x0D",
@@ -60,6 +60,7 @@ const SPELLINGS: [&[u8]; 58] = [
     b"\x1Bc5\x00",
     b"\x1C.",
     b"\x1B \x05",
+    b"\x1Br\x01",
 ];
 
 /// A spelling of each row of the command table, with a barcode of each symbology in each form.

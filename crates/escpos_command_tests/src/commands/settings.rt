@@ -14,7 +14,7 @@ type Row = (
     &'static str,
 );
 
-const REFERENCE: [Row; 23] = [
+const REFERENCE: [Row; 24] = [
     (SettingKind::Mode, &[0x1B, 0x21], &[0, 255], &[], "mode"),
     (
         SettingKind::Emphasis,
@@ -163,6 +163,13 @@ const REFERENCE: [Row; 23] = [
         &[0, 255],
         &[],
         "charspacing",
+    ),
+    (
+        SettingKind::Color,
+        &[0x1B, 0x72],
+        &[0, 1, 48, 49],
+        &[2, 47, 50, 255],
+        "color",
     ),
 ];
 

@@ -59,7 +59,7 @@ fn every_byte_in_qr_codes(rt: HostRuntime) {
 
 #[test]
 fn every_byte_in_settings_of_the_fourth_profile(rt: HostRuntime) {
-    every_byte_follows(&rt, rt.alloc(), 50, 58);
+    every_byte_follows(&rt, rt.alloc(), 50, 59);
 }
 
 #[test]
@@ -68,7 +68,7 @@ fn all_spellings_in_one_stream(rt: HostRuntime) {
     for spelling in spellings() {
         stream.extend_from_slice(spelling).expect(&rt, "memory");
     }
-    assert!(&rt; spellings().len() == 58);
+    assert!(&rt; spellings().len() == 59);
     agrees(&rt, rt.alloc(), &stream);
 }
 
@@ -92,8 +92,9 @@ fn begins_anew_after_a_fault(rt: HostRuntime) {
 
 // The bytes before a parameter, the parameters that are read there (the least and the greatest, and the
 // ends of each range between them), and their nearest neighbours, which are refused.
-const PARAMETERS: [(&[u8], &[u8], &[u8]); 29] = [
+const PARAMETERS: [(&[u8], &[u8], &[u8]); 30] = [
     (&[0x1B, 0x20], &[0, 255], &[]),
+    (&[0x1B, 0x72], &[0, 1, 48, 49], &[2, 47, 50]),
     (&[0x1B, 0x21], &[0, 255], &[]),
     (&[0x1B, 0x2D], &[0, 2, 48, 50], &[3, 47, 51]),
     (&[0x1B, 0x33], &[0, 255], &[]),

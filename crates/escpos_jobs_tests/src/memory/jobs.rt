@@ -57,6 +57,7 @@ text{font-family:\"DejaVu Sans Mono\",Menlo,Consolas,monospace;font-size:20px;wh
 .B{font-size:15px}
 .bold{font-weight:bold}
 .white{fill:#fff}
+.second{fill:#c00}
 .middle{text-anchor:middle}
 .bars path,.raster path{stroke:#000;shape-rendering:crispEdges}
 .raster{clip-path:url(#line)}

@@ -7,6 +7,6 @@ use Rattle.escpos_paper.proofs.text.append_cells.Given as goal
 abbrev pub invariant-loop-cell : goal.invariant-loop-cell
 invariant-loop-cell l = record {
   whole : l.initial.gather.kept ++ cells_text power_on l.row ≡ l.gather.kept ++ cells_text l.before (drop l.cell-index l.row);
-  short : length l.gather.kept ≤ length l.initial.gather.kept + 36 * l.cell-index;
+  short : length l.gather.kept ≤ length l.initial.gather.kept + 40 * l.cell-index;
   same_count : l.gather.written ≡ l.initial.gather.written;
 }
