@@ -1,6 +1,6 @@
 -- The laws of the earlier profiles, for every number: where the spelling of a command that came later parts from those of the
 -- commands that the profile had. A setting adds nothing here, and a form of command a line to `formed`, `witnesses` and `known_to`.
-use Rattle.std.proofs.Common.{◌≡◌, ◌<◌, ◌⊎◌, inl, inr, ℕ, zero, suc, ◌+◌, List, [], ◌∷◌, ◌++◌, length, refl, sym, ◌∙◌, ap, subst, append_assoc, append-nil, arith, Bool, true, false, cond, IsTrue, None}
+use Rattle.std.proofs.Common.{◌≡◌, ◌<◌, ◌⊎◌, inl, inr, ℕ, zero, suc, ◌+◌, List, [], ◌∷◌, ◌++◌, length, refl, sym, ◌∙◌, ap, subst, append_assoc, append-nil, arith, Bool, true, false, cond, IsTrue, Option, None, Some}
 use Rattle.std.specs.Prelude.{◌==◌, ◌&&◌, ◌||◌, nat_le, nat_lt, option_to_list}
 use Rattle.std.specs.List.{list_all, list_any, AllByRecursion}
 use Rattle.std.proofs.lemmas.Bool.Decides.{nat_tests}
@@ -14,11 +14,11 @@ use Rattle.escpos_command.specs.declared.setting.SettingKind.{SettingKind}
 use Rattle.escpos_command.specs.Barcodes.{barcode}
 use Rattle.escpos_command.specs.CommandTable.{Spells, IsCommand, row}
 use Rattle.escpos_command.specs.Grammar.{Viable}
-use Rattle.escpos_command.specs.Parameters.{is_character}
+use Rattle.escpos_command.specs.Parameters.{is_byte, is_character, is_cut, is_feed_cut_mode, is_one_of_two}
 use Rattle.escpos_command.specs.Prefixes.{apart}
 use Rattle.escpos_command.specs.Rasters.{picture}
 use Rattle.escpos_command.specs.SettingTable.{table, number, row_at, row_for, row_prefix}
-use Rattle.escpos_command.specs.EarlierProfiles.{prefix_of, prefix_since, since, in_profile, IsNew, prefix, rows}
+use Rattle.escpos_command.specs.EarlierProfiles.{cut_since, prefix_of, prefix_since, since, in_profile, IsNew, prefix, rows}
 use Rattle.escpos_command.specs.Profiles.{ViableIn}
 use Rattle.escpos_command.proofs.Combinators.{and_left, and_right, same_number, number_itself, at_row}
 use Rattle.escpos_command.proofs.Planting.{or_else, or_right}
@@ -45,7 +45,6 @@ formed =
     ∷ (ESC ∷ 0x70 ∷ [], 2)
     ∷ (GS ∷ 0x28 ∷ 0x48 ∷ [], 1)
     ∷ (GS ∷ 0x28 ∷ 0x6B ∷ [], 3)
-    ∷ (GS ∷ 0x56 ∷ [], 1)
     ∷ (GS ∷ 0x61 ∷ [], 4)
     ∷ (GS ∷ 0x6B ∷ [], 1)
     ∷ (GS ∷ 0x76 ∷ [], 1)
@@ -55,8 +54,22 @@ abbrev of_rows : List Row → Known
 of_rows [] = []
 of_rows (r ∷ rs) = (row_prefix r, r.since) ∷ of_rows rs
 
+-- Those of cuts, each with its mode.
+abbrev cut_modes : List ℕ
+cut_modes = 0 ∷ 1 ∷ 48 ∷ 49 ∷ 65 ∷ 66 ∷ 97 ∷ 98 ∷ 103 ∷ 104 ∷ []
+
+abbrev of_mode : ℕ → List ℕ × ℕ
+of_mode m = (GS ∷ 0x56 ∷ m ∷ [], cut_since m)
+
+abbrev of_modes : List ℕ → Known
+of_modes [] = []
+of_modes (m ∷ ms) = of_mode m ∷ of_modes ms
+
+abbrev others : Known
+others = of_modes cut_modes ++ of_rows table
+
 unfoldable pub known : Known
-known = formed ++ of_rows table
+known = formed ++ others
 
 abbrev Has : List ℕ × ℕ → Known → Type 0
 Has q [] = ⊥
@@ -138,30 +151,42 @@ row_known (r ∷ rs) (suc i) h = inr (row_known rs i (omega arith))
 
 setting_known : (which : SettingKind) → Has (row_prefix (row_for table which), (row_for table which).since) known
 unfolding known
-setting_known which = has_later _ formed (of_rows table) (row_known table (number which) (covered table is_table which))
+setting_known which = has_later _ formed others (has_later _ (of_modes cut_modes) (of_rows table) (row_known table (number which) (covered table is_table which)))
+
+is_mode : (m : ℕ) (feed : Option ℕ) → is_cut m feed ≡ true → list_any (λ x. m == x) cut_modes ≡ true
+is_mode m None h = grind (arith, nat_tests, h)
+is_mode m (Some n) h = let mode = and_left (is_feed_cut_mode m) (is_byte n) h in grind (arith, nat_tests, mode)
+
+mode_known : (ms : List ℕ) (m : ℕ) → list_any (λ x. m == x) ms ≡ true → Has (of_mode m) (of_modes ms)
+mode_known [] m h = absurd cc
+mode_known (x ∷ ms) m h = by_test (m == x) refl (λ k. mode_known ms m k)
+  where
+    by_test : (v : Bool) → (m == x) ≡ v → (list_any (λ y. m == y) ms ≡ true → Has (of_mode m) (of_modes ms)) → Has (of_mode m) (of_modes (x ∷ ms))
+    by_test true e further = inl (ap of_mode (sym (same_number m x e)))
+    by_test false e further = inr (further (or_right (m == x) (list_any (λ y. m == y) ms) e h))
 
 -- The command is a character, or its prefix is known.
 known_to : (c : Command) → IsCommand c → Has (prefix_of c, prefix_since c) known ⊎ ((b : ℕ) × (prefix_of c ≡ b ∷ []) × (is_character b ≡ true) × (prefix_since c ≡ 1))
 unfolding known
 known_to (kind.Char b) h = inr (b, refl, h, refl)
 known_to (kind.Set s) h = inl (setting_known s.0)
-known_to kind.LineFeed h = inl (has_earlier _ formed (of_rows table) (inl refl))
-known_to kind.Return h = inl (has_earlier _ formed (of_rows table) (inr (inl refl)))
-known_to (kind.Status n) h = inl (has_earlier _ formed (of_rows table) (inr (inr (inl refl))))
-known_to kind.Init h = inl (has_earlier _ formed (of_rows table) (inr (inr (inr (inl refl)))))
-known_to (kind.FeedUnits n) h = inl (has_earlier _ formed (of_rows table) (inr (inr (inr (inr (inl refl))))))
-known_to (kind.FeedLines n) h = inl (has_earlier _ formed (of_rows table) (inr (inr (inr (inr (inr (inl refl)))))))
-known_to (kind.Pulse p) h = inl (has_earlier _ formed (of_rows table) (inr (inr (inr (inr (inr (inr (inl refl))))))))
-known_to (kind.Mark id) h = inl (has_earlier _ formed (of_rows table) (inr (inr (inr (inr (inr (inr (inr (inl refl)))))))))
-known_to (kind.QrModel n) h = inl (has_earlier _ formed (of_rows table) (inr (inr (inr (inr (inr (inr (inr (inr (inl refl))))))))))
-known_to (kind.QrSize n) h = inl (has_earlier _ formed (of_rows table) (inr (inr (inr (inr (inr (inr (inr (inr (inl refl))))))))))
-known_to (kind.QrLevel n) h = inl (has_earlier _ formed (of_rows table) (inr (inr (inr (inr (inr (inr (inr (inr (inl refl))))))))))
-known_to (kind.QrStore stored) h = inl (has_earlier _ formed (of_rows table) (inr (inr (inr (inr (inr (inr (inr (inr (inl refl))))))))))
-known_to kind.QrPrint h = inl (has_earlier _ formed (of_rows table) (inr (inr (inr (inr (inr (inr (inr (inr (inl refl))))))))))
-known_to (kind.Cut c) h = inl (has_earlier _ formed (of_rows table) (inr (inr (inr (inr (inr (inr (inr (inr (inr (inl refl)))))))))))
-known_to (kind.AutomaticStatus n) h = inl (has_earlier _ formed (of_rows table) (inr (inr (inr (inr (inr (inr (inr (inr (inr (inr (inl refl))))))))))))
-known_to (kind.Bars bars) h = inl (has_earlier _ formed (of_rows table) (inr (inr (inr (inr (inr (inr (inr (inr (inr (inr (inr (inl refl)))))))))))))
-known_to (kind.Raster raster) h = inl (has_earlier _ formed (of_rows table) (inr (inr (inr (inr (inr (inr (inr (inr (inr (inr (inr (inr (inl refl))))))))))))))
+known_to kind.LineFeed h = inl (has_earlier _ formed others (inl refl))
+known_to kind.Return h = inl (has_earlier _ formed others (inr (inl refl)))
+known_to (kind.Status n) h = inl (has_earlier _ formed others (inr (inr (inl refl))))
+known_to kind.Init h = inl (has_earlier _ formed others (inr (inr (inr (inl refl)))))
+known_to (kind.FeedUnits n) h = inl (has_earlier _ formed others (inr (inr (inr (inr (inl refl))))))
+known_to (kind.FeedLines n) h = inl (has_earlier _ formed others (inr (inr (inr (inr (inr (inl refl)))))))
+known_to (kind.Pulse p) h = inl (has_earlier _ formed others (inr (inr (inr (inr (inr (inr (inl refl))))))))
+known_to (kind.Mark id) h = inl (has_earlier _ formed others (inr (inr (inr (inr (inr (inr (inr (inl refl)))))))))
+known_to (kind.QrModel n) h = inl (has_earlier _ formed others (inr (inr (inr (inr (inr (inr (inr (inr (inl refl))))))))))
+known_to (kind.QrSize n) h = inl (has_earlier _ formed others (inr (inr (inr (inr (inr (inr (inr (inr (inl refl))))))))))
+known_to (kind.QrLevel n) h = inl (has_earlier _ formed others (inr (inr (inr (inr (inr (inr (inr (inr (inl refl))))))))))
+known_to (kind.QrStore stored) h = inl (has_earlier _ formed others (inr (inr (inr (inr (inr (inr (inr (inr (inl refl))))))))))
+known_to kind.QrPrint h = inl (has_earlier _ formed others (inr (inr (inr (inr (inr (inr (inr (inr (inl refl))))))))))
+known_to (kind.Cut c) h = inl (has_later _ formed others (has_earlier _ (of_modes cut_modes) (of_rows table) (mode_known cut_modes c.0 (is_mode c.0 c.1 h))))
+known_to (kind.AutomaticStatus n) h = inl (has_earlier _ formed others (inr (inr (inr (inr (inr (inr (inr (inr (inr (inl refl)))))))))))
+known_to (kind.Bars bars) h = inl (has_earlier _ formed others (inr (inr (inr (inr (inr (inr (inr (inr (inr (inr (inl refl))))))))))))
+known_to (kind.Raster raster) h = inl (has_earlier _ formed others (inr (inr (inr (inr (inr (inr (inr (inr (inr (inr (inr (inl refl)))))))))))))
 
 -- Each prefix that is known has a command, which came with it.
 abbrev Witness : List ℕ × ℕ → Type 0
@@ -187,17 +212,54 @@ witnesses = (
                 (
                   (kind.QrPrint, refl, refl, refl),
                   (
-                    (kind.Cut (0, None), refl, refl, refl),
+                    (kind.AutomaticStatus 0, refl, refl, refl),
                     (
-                      (kind.AutomaticStatus 0, refl, refl, refl),
+                      (kind.Bars (barcode B Code39 (0x41 ∷ [])), refl, refl, refl),
                       (
-                        (kind.Bars (barcode B Code39 (0x41 ∷ [])), refl, refl, refl),
-                        (
-                          (kind.Raster (picture 0 1 1 (0 ∷ [])), refl, refl, refl),
-                          tt,
-                        ),
+                        (kind.Raster (picture 0 1 1 (0 ∷ [])), refl, refl, refl),
+                        tt,
                       ),
                     ),
+                  ),
+                ),
+              ),
+            ),
+          ),
+        ),
+      ),
+    ),
+  ),
+)
+
+-- A cut at once, or with a feed.
+at_once : (m : ℕ) → is_one_of_two m ≡ true → Witness (of_mode m)
+at_once m h = (kind.Cut (m, None), h, refl, refl)
+
+with_feed : (m : ℕ) → is_feed_cut_mode m ≡ true → Witness (of_mode m)
+with_feed m h = (kind.Cut (m, Some 0), ap (λ t. t && is_byte 0) h, refl, refl)
+
+mode_witnesses : AllByRecursion Witness (of_modes cut_modes)
+mode_witnesses = (
+  at_once 0 refl,
+  (
+    at_once 1 refl,
+    (
+      at_once 48 refl,
+      (
+        at_once 49 refl,
+        (
+          with_feed 65 refl,
+          (
+            with_feed 66 refl,
+            (
+              with_feed 97 refl,
+              (
+                with_feed 98 refl,
+                (
+                  with_feed 103 refl,
+                  (
+                    with_feed 104 refl,
+                    tt,
                   ),
                 ),
               ),
@@ -239,9 +301,12 @@ in_either q (o ∷ os) more (inr h) = elim (in_either q os more h) [
 
 witness : (q : List ℕ × ℕ) → Has q known → Witness q
 unfolding known
-witness q h = elim (in_either q formed (of_rows table) h) [
+witness q h = elim (in_either q formed others h) [
   | inl k ↦ formed_witness formed q witnesses k
-  | inr k ↦ of_rows_witness table q row_witness k
+  | inr k ↦ elim (in_either q (of_modes cut_modes) (of_rows table) k) [
+    | inl l ↦ formed_witness (of_modes cut_modes) q mode_witnesses l
+    | inr l ↦ of_rows_witness table q row_witness l
+  ]
 ]
 
 -- ## What the profile had
@@ -335,6 +400,7 @@ prefix_first (kind.Raster raster) = by_height (nat_le raster.height 2047)
     by_height true = refl
     by_height false = refl
 prefix_first (kind.Set s) = grind (arith, nat_tests)
+prefix_first (kind.Cut cut) = grind (arith, nat_tests)
 prefix_first _ = refl
 
 not_both : (s t n : ℕ) → nat_le s t ≡ true → nat_le t n ≡ true → nat_lt n s ≡ true → ⊥
@@ -387,7 +453,7 @@ split n before (b ∷ after) h k = by_test (had n (before ++ b ∷ []) known) re
 
 begun_at_all : (n : ℕ) → nat_le 1 n ≡ true → had n [] known ≡ true
 unfolding known
-begun_at_all n h = has_had n [] (formed ++ of_rows table) (LF ∷ [], 1) (has_earlier _ formed (of_rows table) (inl refl)) h (LF ∷ [], refl)
+begun_at_all n h = has_had n [] (formed ++ others) (LF ∷ [], 1) (has_earlier _ formed others (inl refl)) h (LF ∷ [], refl)
 
 not_true : (b : Bool) → (b ≡ true → ⊥) → b ≡ false
 not_true true h = absurd (h refl)
@@ -459,6 +525,7 @@ tall_parts n scale width height dots false h e k is =
 pub parts : (n : ℕ) → nat_le 1 n ≡ true → AllPart (in_profile n) (IsNew n)
 parts n h (kind.Raster r) k is = tall_parts n r.scale r.width r.height r.dots (nat_le r.height 2047) h refl k is
 parts n h (kind.Set s) k is = parts_at_prefix n h (kind.Set s) is (came_later (row_for table s.0).since n k)
+parts n h (kind.Cut cut) k is = parts_at_prefix n h (kind.Cut cut) is (came_later (cut_since cut.0) n k)
 parts n h c k is = parts_at_prefix n h c is (came_later (prefix_since c) n k)
 
 -- What is new is taken now, and wasn't.

@@ -8,7 +8,7 @@ use Rattle.escpos_command.specs.Parameters.{is_byte, is_one_of_four}
 use Rattle.escpos_command.specs.Rasters.{is_width}
 use Rattle.escpos_command.specs.SettingTable.{table, row_for, row_prefix}
 
--- The bytes that a command begins with, whatever its parameters are.
+-- The bytes that a command begins with, whatever its parameters are; for a cut with its mode.
 abbrev pub prefix_of : Command → List ℕ
 prefix_of (kind.Char b) = b ∷ []
 prefix_of kind.LineFeed = LF ∷ []
@@ -25,10 +25,14 @@ prefix_of (kind.QrSize n) = GS ∷ 0x28 ∷ 0x6B ∷ []
 prefix_of (kind.QrLevel n) = GS ∷ 0x28 ∷ 0x6B ∷ []
 prefix_of (kind.QrStore stored) = GS ∷ 0x28 ∷ 0x6B ∷ []
 prefix_of kind.QrPrint = GS ∷ 0x28 ∷ 0x6B ∷ []
-prefix_of (kind.Cut cut) = GS ∷ 0x56 ∷ []
+prefix_of (kind.Cut cut) = GS ∷ 0x56 ∷ cut.0 ∷ []
 prefix_of (kind.AutomaticStatus n) = GS ∷ 0x61 ∷ []
 prefix_of (kind.Status n) = DLE ∷ EOT ∷ []
 prefix_of (kind.Mark id) = GS ∷ 0x28 ∷ 0x48 ∷ []
+
+-- The profile that first had cuts of this mode.
+abbrev pub cut_since : ℕ → ℕ
+cut_since m = if nat_le 97 m then 4 else 1
 
 -- The profile that first had commands of this prefix.
 abbrev pub prefix_since : Command → ℕ
@@ -41,6 +45,7 @@ prefix_since (kind.QrLevel n) = 3
 prefix_since (kind.QrStore stored) = 3
 prefix_since kind.QrPrint = 3
 prefix_since (kind.AutomaticStatus n) = 4
+prefix_since (kind.Cut cut) = cut_since cut.0
 prefix_since _ = 1
 
 -- The profile that first had the command. A raster of more than 2,047 rows came later than others.

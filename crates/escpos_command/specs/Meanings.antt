@@ -51,9 +51,9 @@ size_width n = n / 16 % 8 + 1
 abbrev pub size_height : ℕ → ℕ
 size_height n = n % 8 + 1
 
--- A cut leaves one point where its mode is 1, 49 or 66.
+-- A cut leaves one point where its mode is 1, 49, 66, 98 or 104.
 abbrev pub leaves_a_point : ℕ → Bool
-leaves_a_point m = m == 1 || m == 49 || m == 66
+leaves_a_point m = m == 1 || m == 49 || m == 66 || m == 98 || m == 104
 
 -- GS a lets the printer tell its condition unasked, by any bit.
 abbrev pub reports : ℕ → Bool

@@ -52,9 +52,9 @@ is_qr_size n = nat_le 1 n && nat_le n 16
 abbrev pub is_qr_level : ℕ → Bool
 is_qr_level n = nat_le 48 n && nat_le n 51
 
--- GS V with a feed: 65 cuts the paper through, 66 leaves a point.
+-- GS V with a feed: 65, 97 and 103 cut the paper through, 66, 98 and 104 leave a point.
 abbrev pub is_feed_cut_mode : ℕ → Bool
-is_feed_cut_mode m = m == 65 || m == 66
+is_feed_cut_mode m = m == 65 || m == 66 || m == 97 || m == 98 || m == 103 || m == 104
 
 -- What GS V takes: a mode alone, 0 and 48 through, 1 and 49 leaving a point; or another mode and how far the paper is fed
 -- first, in motion units.

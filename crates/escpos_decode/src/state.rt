@@ -531,7 +531,7 @@ fn cut_mode(byte: u8) -> Next
         return Next::Done(Command::Cut(cut));
     }
     match byte {
-        65 | 66 => Next::To(State::CutFeed { mode: byte }),
+        65 | 66 | 97 | 98 | 103 | 104 => Next::To(State::CutFeed { mode: byte }),
         _ => Next::Refused,
     }
 }

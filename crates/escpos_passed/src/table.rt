@@ -82,7 +82,7 @@ const COUNT_BYTE: Counted = Counted {
 };
 
 /// How many rows there are.
-pub const COUNT: usize = 124;
+pub const COUNT: usize = 120;
 
 // A row for each line: its prefix, how the length of what follows is told, and the third byte with which it isn't the command.
 macro_rules! rows {
@@ -285,11 +285,6 @@ pub const TABLE: [Row; COUNT] = rows! {
     Prefix::Three(GS, b'Q', b'0'), Form::Counted(Counted { before: 5, number: Number::Word(1), again: Some(Number::Word(3)), unit: 1 }), None;
     // GS T
     Prefix::Two(GS, b'T'), Form::Fixed(1), None;
-    // GS V
-    Prefix::With(GS, b'V', 0x61), Form::Fixed(1), None;
-    Prefix::With(GS, b'V', 0x62), Form::Fixed(1), None;
-    Prefix::With(GS, b'V', 0x67), Form::Fixed(1), None;
-    Prefix::With(GS, b'V', 0x68), Form::Fixed(1), None;
     // GS W
     Prefix::Two(GS, b'W'), Form::Fixed(2), None;
     // GS \

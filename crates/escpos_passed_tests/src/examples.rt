@@ -82,7 +82,7 @@ const FS_EXAMPLES: [(&str, &[u8]); 22] = [
 ];
 
 // Those that begin with GS.
-const GS_EXAMPLES: [(&str, &[u8]); 55] = [
+const GS_EXAMPLES: [(&str, &[u8]); 53] = [
     ("GS FF", b"\x1D\x0C"),
     ("GS $", b"\x1D\x24\x40\x00"),
     ("GS ( A", b"\x1D\x28\x41\x02\x00\x00\x02"),
@@ -138,8 +138,6 @@ const GS_EXAMPLES: [(&str, &[u8]); 55] = [
     ("GS P", b"\x1D\x50\xB4\xB4"),
     ("GS Q 0", b"\x1D\x51\x30\x00\x02\x00\x01\x00\xFF\x81"),
     ("GS T", b"\x1D\x54\x01"),
-    ("GS V", b"\x1D\x56\x61\x00"),
-    ("GS V", b"\x1D\x56\x67\x00"),
     ("GS W", b"\x1D\x57\x00\x02"),
     ("GS \\", b"\x1D\x5C\x10\x00"),
     ("GS ^", b"\x1D\x5E\x01\x00\x00"),

@@ -132,7 +132,8 @@ impl Pulse {
 /// How the paper is cut. (Reference: GS V.)
 ///
 /// Function A cuts at once: mode 0 or 48 through, 1 or 49 with one point left uncut. Function B first feeds the paper to
-/// the cutting position and some motion units beyond it: mode 65 through, 66 with one point left uncut.
+/// the cutting position and some motion units beyond it: mode 65 through, 66 with one point left uncut. Functions C (modes 97
+/// and 98) and D (103 and 104) are as function B on paper.
 #[derive(Clone, Copy, Debug, PartialEq, Eq)]
 pub struct Cut {
     mode: u8,
@@ -163,12 +164,12 @@ impl Cut {
         }
     }
 
-    /// A cut after a feed of `feed` motion units; `None` for all modes but 65 and 66.
+    /// A cut after a feed of `feed` motion units; `None` for all modes but 65, 66, 97, 98, 103 and 104.
     pub fn with_feed(mode: u8, feed: u8) -> Option<Self>
         ensures { SomeIff result (IsTrue (is_cut mode (Some feed))) (mode, Some feed) }
     {
         match mode {
-            65 | 66 => Some(Cut {
+            65 | 66 | 97 | 98 | 103 | 104 => Some(Cut {
                 mode,
                 feed: Some(feed),
             }),
@@ -176,7 +177,7 @@ impl Cut {
         }
     }
 
-    /// The mode as sent: 0, 1, 48 or 49 for a cut at once, 65 or 66 for one after a feed.
+    /// The mode as sent: 0, 1, 48 or 49 for a cut at once, 65, 66, 97, 98, 103 or 104 for one after a feed.
     pub fn mode(self) -> u8
         ensures kept { result ≡ self.0 }
         ensures range { IsTrue (is_cut self.0 self.1) }
@@ -196,7 +197,7 @@ impl Cut {
     pub fn is_partial(self) -> bool
         ensures { result ≡ leaves_a_point self.0 }
     {
-        matches!(self.mode, 1 | 49 | 66)
+        matches!(self.mode, 1 | 49 | 66 | 98 | 104)
     }
 }
 
