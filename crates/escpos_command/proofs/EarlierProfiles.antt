@@ -48,6 +48,8 @@ formed =
     ∷ (GS ∷ 0x61 ∷ [], 4)
     ∷ (GS ∷ 0x6B ∷ [], 1)
     ∷ (GS ∷ 0x76 ∷ [], 1)
+    ∷ (ESC ∷ 0x69 ∷ [], 4)
+    ∷ (ESC ∷ 0x6D ∷ [], 4)
     ∷ []
 
 abbrev of_rows : List Row → Known
@@ -187,6 +189,12 @@ known_to (kind.Cut c) h = inl (has_later _ formed others (has_earlier _ (of_mode
 known_to (kind.AutomaticStatus n) h = inl (has_earlier _ formed others (inr (inr (inr (inr (inr (inr (inr (inr (inr (inl refl)))))))))))
 known_to (kind.Bars bars) h = inl (has_earlier _ formed others (inr (inr (inr (inr (inr (inr (inr (inr (inr (inr (inl refl))))))))))))
 known_to (kind.Raster raster) h = inl (has_earlier _ formed others (inr (inr (inr (inr (inr (inr (inr (inr (inr (inr (inr (inl refl)))))))))))))
+known_to (kind.OldCut b) h = inl (has_earlier _ formed others (old_cut_known (b == 0x69) (b == 0x6D) refl refl h))
+  where
+    old_cut_known : (s t : Bool) → (b == 0x69) ≡ s → (b == 0x6D) ≡ t → (s || t) ≡ true → Has (ESC ∷ b ∷ [], 4) formed
+    old_cut_known true t e f o = subst (λ x. Has (ESC ∷ x ∷ [], 4) formed) (sym (same_number b 0x69 e)) (inr (inr (inr (inr (inr (inr (inr (inr (inr (inr (inr (inr (inl refl)))))))))))))
+    old_cut_known false true e f o = subst (λ x. Has (ESC ∷ x ∷ [], 4) formed) (sym (same_number b 0x6D f)) (inr (inr (inr (inr (inr (inr (inr (inr (inr (inr (inr (inr (inr (inl refl))))))))))))))
+    old_cut_known false false e f o = absurd cc
 
 -- Each prefix that is known has a command, which came with it.
 abbrev Witness : List ℕ × ℕ → Type 0
@@ -217,7 +225,13 @@ witnesses = (
                       (kind.Bars (barcode B Code39 (0x41 ∷ [])), refl, refl, refl),
                       (
                         (kind.Raster (picture 0 1 1 (0 ∷ [])), refl, refl, refl),
-                        tt,
+                        (
+                          (kind.OldCut 0x69, refl, refl, refl),
+                          (
+                            (kind.OldCut 0x6D, refl, refl, refl),
+                            tt,
+                          ),
+                        ),
                       ),
                     ),
                   ),

@@ -116,6 +116,11 @@ leads_cut m None h = ap (λ t. walk t []) (leads_mode m h)
 leads_cut m (Some n) h =
     ap (λ t. walk t (n ∷ [])) (leads_feed_mode m (and_left _ _ h)) ∙ walk-one is_byte (λ x. kind.Cut (m, Some x)) n (and_right _ _ h)
 
+leads_old_cut : (b : ℕ) (s t : Bool) → (b == 0x69) ≡ s → (b == 0x6D) ≡ t → (s || t) ≡ true → walk grammar (row (kind.OldCut b)) ≡ leaf (kind.OldCut b)
+leads_old_cut b true t e f o = subst (λ x. walk grammar (row (kind.OldCut x)) ≡ leaf (kind.OldCut x)) (sym (same_number b 0x69 e)) (form (ESC ∷ 0x69 ∷ []) [] refl)
+leads_old_cut b false true e f o = subst (λ x. walk grammar (row (kind.OldCut x)) ≡ leaf (kind.OldCut x)) (sym (same_number b 0x6D f)) (form (ESC ∷ 0x6D ∷ []) [] refl)
+leads_old_cut b false false e f o = absurd cc
+
 leads_mark : (id : List ℕ) → is_mark_id id ≡ true → walk (counted 4 (λ _. is_mark_byte) kind.Mark []) id ≡ leaf (kind.Mark id)
 leads_mark id h =
     walk-counted 4 (λ _. is_mark_byte) kind.Mark [] id (same_number _ _ (and_left _ _ h))
@@ -148,6 +153,7 @@ leads kind.QrPrint h = form (GS ∷ 0x28 ∷ 0x6B ∷ []) (0x03 ∷ 0x00 ∷ 0x3
 leads (kind.Cut c) h =
     form (GS ∷ 0x56 ∷ []) _ refl
     ∙ ap (walk (cut c.0)) (append-nil (option_to_list c.1 ++ []) ∙ append-nil (option_to_list c.1)) ∙ leads_cut c.0 c.1 h
+leads (kind.OldCut b) h = leads_old_cut b (b == 0x69) (b == 0x6D) refl refl h
 leads (kind.AutomaticStatus n) h = form (GS ∷ 0x61 ∷ []) (n ∷ []) refl ∙ walk-one is_byte kind.AutomaticStatus n h
 leads (kind.Status n) h = form (DLE ∷ EOT ∷ []) (n ∷ []) refl ∙ walk-one is_status_kind kind.Status n h
 leads (kind.Mark id) h =
@@ -209,7 +215,13 @@ good_forms = (
                         (tt, ((65, tt), good_barcodes)),
                         (
                           (tt, good_raster),
-                          tt,
+                          (
+                            (tt, at_row (kind.OldCut 0x69) refl),
+                            (
+                              (tt, at_row (kind.OldCut 0x6D) refl),
+                              tt,
+                            ),
+                          ),
                         ),
                       ),
                     ),

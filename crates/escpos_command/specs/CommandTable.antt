@@ -10,7 +10,7 @@ use Rattle.escpos_command.specs.declared.command.Command.TheVariants as kind
 use Rattle.escpos_command.specs.declared.setting.SettingKind.{SettingKind}
 use Rattle.escpos_command.specs.declared.bars.Form.{Form}
 use Rattle.escpos_command.specs.declared.bars.Form.TheVariants.{A, B}
-use Rattle.escpos_command.specs.Parameters.{is_byte, is_character, is_status_kind, is_cut, is_pulse, is_qr_model, is_qr_size, is_qr_level, is_mark_id}
+use Rattle.escpos_command.specs.Parameters.{is_byte, is_character, is_status_kind, is_cut, is_old_cut, is_pulse, is_qr_model, is_qr_size, is_qr_level, is_mark_id}
 use Rattle.escpos_command.specs.Barcodes.{Barcode, barcode_mode, is_barcode}
 use Rattle.escpos_command.specs.QrCodes.{is_qr_data}
 use Rattle.escpos_command.specs.Rasters.{Picture, is_raster}
@@ -96,6 +96,7 @@ entry_of (kind.QrLevel n) = entry (GS ∷ 0x28 ∷ 0x6B ∷ 0x03 ∷ 0x00 ∷ 0x
 entry_of (kind.QrStore stored) = qr_store_entry stored  -- GS ( k, function 80
 entry_of kind.QrPrint = entry (GS ∷ 0x28 ∷ 0x6B ∷ 0x03 ∷ 0x00 ∷ 0x31 ∷ 0x51 ∷ 0x30 ∷ []) [] true  -- GS ( k, function 81
 entry_of (kind.Cut cut) = entry (GS ∷ 0x56 ∷ []) (cut.0 ∷ option_to_list cut.1) (is_cut cut.0 cut.1)  -- GS V m, or GS V m n
+entry_of (kind.OldCut b) = entry (ESC ∷ []) (b ∷ []) (is_old_cut b)  -- ESC i, ESC m
 entry_of (kind.AutomaticStatus n) = entry (GS ∷ 0x61 ∷ []) (n ∷ []) (is_byte n)  -- GS a
 entry_of (kind.Status n) = entry (DLE ∷ EOT ∷ []) (n ∷ []) (is_status_kind n)  -- DLE EOT
 entry_of (kind.Mark id) = entry (GS ∷ 0x28 ∷ 0x48 ∷ 0x06 ∷ 0x00 ∷ 0x30 ∷ 0x30 ∷ []) id (is_mark_id id)  -- GS ( H, function 48

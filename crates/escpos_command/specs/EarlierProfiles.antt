@@ -26,6 +26,7 @@ prefix_of (kind.QrLevel n) = GS ∷ 0x28 ∷ 0x6B ∷ []
 prefix_of (kind.QrStore stored) = GS ∷ 0x28 ∷ 0x6B ∷ []
 prefix_of kind.QrPrint = GS ∷ 0x28 ∷ 0x6B ∷ []
 prefix_of (kind.Cut cut) = GS ∷ 0x56 ∷ cut.0 ∷ []
+prefix_of (kind.OldCut b) = ESC ∷ b ∷ []
 prefix_of (kind.AutomaticStatus n) = GS ∷ 0x61 ∷ []
 prefix_of (kind.Status n) = DLE ∷ EOT ∷ []
 prefix_of (kind.Mark id) = GS ∷ 0x28 ∷ 0x48 ∷ []
@@ -45,6 +46,7 @@ prefix_since (kind.QrLevel n) = 3
 prefix_since (kind.QrStore stored) = 3
 prefix_since kind.QrPrint = 3
 prefix_since (kind.AutomaticStatus n) = 4
+prefix_since (kind.OldCut b) = 4
 prefix_since (kind.Cut cut) = cut_since cut.0
 prefix_since _ = 1
 

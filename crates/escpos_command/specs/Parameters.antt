@@ -62,6 +62,10 @@ abbrev pub is_cut : ℕ → Option ℕ → Bool
 is_cut m None = is_one_of_two m
 is_cut m (Some n) = is_feed_cut_mode m && is_byte n
 
+-- The letters of the older cuts: i leaves one point, m three.
+abbrev pub is_old_cut : ℕ → Bool
+is_old_cut b = b == 0x69 || b == 0x6D
+
 -- A pulse to the connector of a cash drawer: which pin, and how long it is on and off.
 abbrev pub is_pulse : ℕ × ℕ × ℕ → Bool
 is_pulse pulse = is_one_of_two pulse.0 && is_byte pulse.1 && is_byte pulse.2

@@ -1,5 +1,5 @@
 -- The text of the line: the characters that no command has printed or dropped yet. (Reference: LF, ESC d,
--- ESC J, ESC @, GS k, GS v 0, GS V, GS ( k.)
+-- ESC J, ESC @, ESC i, ESC m, GS k, GS v 0, GS V, GS ( k.)
 use Rattle.std.specs.Prelude.{ℕ, ◌||◌, Bool, true, false, List, [], ◌∷◌, ◌++◌, Option, None, Some, if◌then◌else◌}
 use Rattle.escpos_command.specs.declared.command.Command.{Command}
 use Rattle.escpos_command.specs.declared.command.Command.TheVariants as kind
@@ -14,6 +14,7 @@ ends_text kind.Init = true
 ends_text (kind.Bars bars) = true
 ends_text (kind.Raster raster) = true
 ends_text (kind.Cut cut) = true
+ends_text (kind.OldCut b) = true
 ends_text kind.QrPrint = true
 ends_text _ = false
 

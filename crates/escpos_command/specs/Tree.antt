@@ -222,6 +222,8 @@ forms =
     ∷ (GS ∷ 0x61 ∷ [], one is_byte kind.AutomaticStatus)
     ∷ (GS ∷ 0x6B ∷ [], node (branch barcodes none))
     ∷ (GS ∷ 0x76 ∷ [], raster)
+    ∷ (ESC ∷ 0x69 ∷ [], leaf (kind.OldCut 0x69))
+    ∷ (ESC ∷ 0x6D ∷ [], leaf (kind.OldCut 0x6D))
     ∷ []
 
 -- What follows the prefix of a setting.

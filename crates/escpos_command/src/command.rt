@@ -15,7 +15,8 @@ use crate::bars::{Bars, Form};
 use crate::bytes::{CR, DLE, EOT, ESC, GS, LF};
 use crate::mark::MarkId;
 use crate::parameter::{
-    Character, Cut, FeedLines, FeedUnits, Pulse, QrLevel, QrModel, QrSize, Reporting, StatusKind,
+    Character, Cut, FeedLines, FeedUnits, OldCut, Pulse, QrLevel, QrModel, QrSize, Reporting,
+    StatusKind,
 };
 use crate::qr::QrData;
 use crate::raster::Raster;
@@ -57,6 +58,8 @@ pub enum Command {
     QrPrint,
     /// GS V: cuts the paper. (Reference: GS V.)
     Cut(Cut),
+    /// ESC i or ESC m: cuts the paper but for some points. (Reference: ESC i, ESC m.)
+    OldCut(OldCut),
     /// GS a: sets whether the printer tells its condition unasked. (Reference: GS a.)
     AutomaticStatus(Reporting),
     /// DLE EOT: asks for a status byte. (Reference: DLE EOT.)
@@ -130,6 +133,7 @@ impl Command {
                 None => with(&[GS, b'V'], cut.mode()),
                 Some(feed) => with_all(&[GS, b'V'], &[cut.mode(), feed]),
             },
+            Command::OldCut(cut) => with(&[ESC], cut.letter()),
             Command::AutomaticStatus(reporting) => with(&[GS, b'a'], reporting.byte()),
             Command::Status(kind) => with(&[DLE, EOT], kind.byte()),
             Command::Mark(id) => mark(*id),

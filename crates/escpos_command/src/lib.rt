@@ -39,8 +39,8 @@ pub use fault::FaultReason;
 pub use line_width::{LineWidth, MOST_LINE_DOTS, USUAL_LINE_DOTS};
 pub use mark::{MarkId, is_mark_byte};
 pub use parameter::{
-    Alignment, Character, Correction, Cut, FeedLines, FeedUnits, FontFace, HriPosition, Pulse,
-    QrLevel, QrModel, QrSize, Reporting, Scale, StatusKind, alignment_of, choice, face_of,
+    Alignment, Character, Correction, Cut, FeedLines, FeedUnits, FontFace, HriPosition, OldCut,
+    Pulse, QrLevel, QrModel, QrSize, Reporting, Scale, StatusKind, alignment_of, choice, face_of,
     face_of_mode, has_bit, hri_position_of, magnified, size_height, size_width, underline_of_mode,
 };
 pub use qr::{MOST_QR_DATA, QrData};

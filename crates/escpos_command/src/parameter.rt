@@ -16,5 +16,5 @@ pub use choices::{
     face_of_mode, has_bit, hri_position_of, magnified, scale_of, size_height, size_width,
     underline_of_mode,
 };
-pub use line::{Cut, FeedLines, FeedUnits, Pulse, Reporting, StatusKind};
+pub use line::{Cut, FeedLines, FeedUnits, OldCut, Pulse, Reporting, StatusKind};
 pub use qr::{QrLevel, QrModel, QrSize};

@@ -262,6 +262,7 @@ some_ahead (kind.Pulse x) e = absurd cc
 some_ahead (kind.Bars x) e = absurd cc
 some_ahead (kind.Raster x) e = absurd cc
 some_ahead (kind.Cut x) e = absurd cc
+some_ahead (kind.OldCut x) e = absurd cc
 some_ahead (kind.QrModel x) e = absurd cc
 some_ahead (kind.QrSize x) e = absurd cc
 some_ahead (kind.QrLevel x) e = absurd cc

@@ -7,7 +7,7 @@
 
 ghost use Rattle.std.specs.Prelude.{◌≡◌, ◌∷◌, ◌++◌, ◌&&◌, [], ℕ, List, length, false, IsTrue, Some, None};
 ghost use Rattle.escpos_command.specs.declared.command.Command.{Command};
-ghost use Rattle.escpos_command.specs.Parameters.{is_character, is_mark_byte};
+ghost use Rattle.escpos_command.specs.Parameters.{is_character, is_mark_byte, is_old_cut};
 ghost use Rattle.escpos_command.specs.Places.{reason_after};
 ghost use Rattle.escpos_command.specs.Prefixes.{part_from};
 ghost use Rattle.escpos_command.specs.SettingTable.{table, row_for, row_prefix};
@@ -20,8 +20,8 @@ ghost use Rattle.escpos_decode.specs.declared.state.Next.TheVariants as next;
 use crate::one_parameter::OneParameter;
 use crate::{content, qr};
 use escpos_command::{
-    CR, Character, Command, Cut, DLE, EOT, ESC, FaultReason, Form, GS, LF, MarkId, Pulse, Setting,
-    SettingKind, Symbology, is_mark_byte,
+    CR, Character, Command, Cut, DLE, EOT, ESC, FaultReason, Form, GS, LF, MarkId, OldCut, Pulse,
+    Setting, SettingKind, Symbology, is_mark_byte,
 };
 
 /// A state in the command table between two bytes.
@@ -441,7 +441,19 @@ fn after_esc(byte: u8) -> Next
         b'J' => Next::To(State::Parameter(OneParameter::FeedUnits)),
         b'd' => Next::To(State::Parameter(OneParameter::FeedLines)),
         b'p' => Next::To(State::PulsePin),
+        b'i' | b'm' => old_cut(byte),
         _ => after_letters(ESC, byte),
+    }
+}
+
+// The letter of an older cut.
+fn old_cut(letter: u8) -> Next
+    requires { IsTrue (is_old_cut letter) }
+    ensures { (read : List ℕ) → NextIs result state.Esc read letter }
+{
+    match OldCut::new(letter) {
+        Some(cut) => Next::Done(Command::OldCut(cut)),
+        None => unreachable!(),
     }
 }
 

@@ -27,6 +27,7 @@ hides_what_it_holds (kind.QrLevel n) other = refl
 hides_what_it_holds (kind.QrStore stored) other = refl
 hides_what_it_holds kind.QrPrint other = refl
 hides_what_it_holds (kind.Cut cut) other = refl
+hides_what_it_holds (kind.OldCut b) other = refl
 hides_what_it_holds (kind.Status n) other = absurd (other n refl)
 hides_what_it_holds (kind.Mark id) other = refl
 

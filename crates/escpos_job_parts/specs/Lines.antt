@@ -34,6 +34,7 @@ word_of (kind.QrLevel n) = codes "qrlevel"
 word_of (kind.QrStore stored) = codes "qrstore"
 word_of kind.QrPrint = codes "qrprint"
 word_of (kind.Cut cut) = codes "cut"
+word_of (kind.OldCut b) = codes "oldcut"
 word_of (kind.Status n) = codes "status"
 word_of (kind.Mark id) = codes "mark"
 

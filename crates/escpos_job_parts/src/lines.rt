@@ -224,6 +224,7 @@ fn word(command: &Command) -> &'static [u8]
         Command::QrStore(_) => b"qrstore",
         Command::QrPrint => b"qrprint",
         Command::Cut(_) => b"cut",
+        Command::OldCut(_) => b"oldcut",
         Command::Status(_) => b"status",
         Command::Mark(_) => b"mark",
     }

@@ -6,7 +6,7 @@
 use Rattle.std.proofs.Common.{◌≡◌, ℕ, List, [], ◌∷◌, ◌++◌, refl, sym, ◌∙◌, ap, subst, append-nil, Bool, true, false, cond}
 use Rattle.std.proofs.Math.Seq.{append_snoc}
 use Rattle.escpos_command.specs.declared.command.Command.{Command}
-use Rattle.escpos_command.specs.declared.command.Command.TheVariants.{Char, LineFeed, Init, FeedLines, FeedUnits, Bars, Raster, Cut, Set, QrPrint}
+use Rattle.escpos_command.specs.declared.command.Command.TheVariants.{Char, LineFeed, Init, FeedLines, FeedUnits, Bars, Raster, Cut, OldCut, Set, QrPrint}
 use Rattle.escpos_command.specs.declared.setting.SettingKind.TheVariants as sets
 use Rattle.escpos_command.specs.CommandTable.{IsCommand, AreCommands}
 use Rattle.escpos_command.specs.Text.{is_some}
@@ -86,6 +86,7 @@ quiet_step w s (FeedUnits n) q k = ends w s (FeedUnits n) refl q
 quiet_step w s (Bars bars) q k = ends w s (Bars bars) refl q
 quiet_step w s (Raster raster) q k = ends w s (Raster raster) refl q
 quiet_step w s (Cut how) q k = ends w s (Cut how) refl q
+quiet_step w s (OldCut b) q k = ends w s (OldCut b) refl q
 quiet_step w s QrPrint q k = prints_or_not w s s.stored refl q k
 quiet_step w s Init q k = (one_step w (blank s) (bare (sheet_after s Init)) Init refl k q.1, one_step w (blank s) (blank (sheet_after s Init)) Init refl k q.1)
 quiet_step w s (Set (sets.Align, p)) q k =

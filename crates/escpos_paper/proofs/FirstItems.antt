@@ -56,6 +56,7 @@ prints_first w before (kind.QrStore bytes) h = absurd cc
 prints_first w before kind.QrPrint h = absurd cc
 prints_first w before (kind.Pulse pulse) h = absurd cc
 prints_first w before (kind.AutomaticStatus n) h = absurd cc
+prints_first w before (kind.OldCut b) h = absurd cc
 prints_first w before (kind.Status n) h = tt
 prints_first w before (kind.Mark id) h = tt
 

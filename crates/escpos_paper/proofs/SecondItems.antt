@@ -74,6 +74,7 @@ line_stays w s old_data row kind.Init i h k = tt
 line_stays w s old_data row (kind.Bars bars) i h k = tt
 line_stays w s old_data row (kind.Raster raster) i h k = tt
 line_stays w s old_data row (kind.Cut how) i h k = tt
+line_stays w s old_data row (kind.OldCut b) i h k = absurd cc
 line_stays w s old_data row kind.QrPrint i h k = absurd cc
 line_stays w s old_data row c i h k = k
 
@@ -126,6 +127,7 @@ prints_second w before (kind.FeedUnits n) h s = both (row_of (line_style before)
 prints_second w before (kind.Bars bars) h s = both (row_and_feed (line_style before) (line w before)) _ (row_with_feed (line_style before) (line w before) s.plain s.cells) (tt, tt)
 prints_second w before (kind.Raster raster) h s = both (row_and_feed (line_style before) (line w before)) _ (row_with_feed (line_style before) (line w before) s.plain s.cells) (tt, tt)
 prints_second w before (kind.Cut cut) h s = both (row_and_feed (line_style before) (line w before)) _ (row_with_feed (line_style before) (line w before) s.plain s.cells) (tt, tt)
+prints_second w before (kind.OldCut b) h s = absurd cc
 prints_second w before (kind.QrModel n) h s = absurd cc
 prints_second w before (kind.QrSize n) h s = absurd cc
 prints_second w before (kind.QrLevel n) h s = absurd cc

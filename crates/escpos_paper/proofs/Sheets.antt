@@ -2,7 +2,7 @@
 use Rattle.std.proofs.Common.{◌≡◌, ℕ, List, [], ◌∷◌, ◌++◌, length, refl, sym, ◌∙◌, ap, append_assoc, append-nil, Bool, true, false, cond}
 use Rattle.std.specs.Prelude.{map, nat_lt, filter}
 use Rattle.escpos_command.specs.declared.command.Command.{Command}
-use Rattle.escpos_command.specs.declared.command.Command.TheVariants.{Char, LineFeed, Init, FeedLines, FeedUnits, Bars, Raster, QrPrint, Cut}
+use Rattle.escpos_command.specs.declared.command.Command.TheVariants.{Char, LineFeed, Init, FeedLines, FeedUnits, Bars, Raster, QrPrint, Cut, OldCut}
 use Rattle.escpos_command.specs.Text.{text, ends_line, is_some, characters}
 use Rattle.escpos_paper.specs.declared.cell.Cell.{Cell}
 use Rattle.escpos_paper.specs.declared.item.Item.{Item}
@@ -53,6 +53,7 @@ line-snoc w cs (Bars bars) = ap (line_of w) (cells-snoc cs (Bars bars))
 line-snoc w cs (Raster raster) = ap (line_of w) (cells-snoc cs (Raster raster))
 line-snoc w cs Init = ap (line_of w) (cells-snoc cs Init)
 line-snoc w cs (Cut how) = ap (line_of w) (cells-snoc cs (Cut how))
+line-snoc w cs (OldCut b) = ap (line_of w) (cells-snoc cs (OldCut b))
 line-snoc w cs QrPrint = line_at_print w cs (is_some (stored cs)) refl
 line-snoc w cs c = line_kept w cs c refl refl
 
@@ -71,6 +72,7 @@ prints_step w cs (FeedUnits n) = refl
 prints_step w cs (Bars bars) = refl
 prints_step w cs (Raster raster) = refl
 prints_step w cs (Cut how) = refl
+prints_step w cs (OldCut b) = refl
 prints_step w cs QrPrint = refl
 prints_step w cs c = refl
 

@@ -1,5 +1,5 @@
 -- What commands print, for each width of the line in dots.
-use Rattle.std.specs.Prelude.{ℕ, nat_lt, List, [], ◌∷◌, ◌++◌, Option, None, Some, length, if◌then◌else◌}
+use Rattle.std.specs.Prelude.{ℕ, nat_lt, true, List, [], ◌∷◌, ◌++◌, Option, None, Some, length, if◌then◌else◌}
 use Rattle.escpos_command.specs.declared.command.Command.{Command}
 use Rattle.escpos_command.specs.declared.command.Command.TheVariants as kind
 use Rattle.escpos_command.specs.declared.parameter.choices.Alignment.{Alignment}
@@ -60,6 +60,7 @@ prints width before (kind.Bars bars) =
     row_and_feed (line_style before) (line width before) ++ bars_item ((line_style before).alignment) (bar_style before) bars ∷ []
 prints width before (kind.Raster raster) = row_and_feed (line_style before) (line width before) ++ raster_item ((line_style before).alignment) raster ∷ []
 prints width before (kind.Cut cut) = row_and_feed (line_style before) (line width before) ++ Cut (leaves_a_point cut.0) cut.1 ∷ []
+prints width before (kind.OldCut b) = row_and_feed (line_style before) (line width before) ++ Cut true None ∷ []
 prints width before kind.QrPrint = prints_stored (line_style before) (qr_style before) (stored before) (line width before)
 prints width before (kind.QrModel n) = []
 prints width before (kind.QrSize n) = []

@@ -1,6 +1,6 @@
 -- What one more command makes of the settings, line and paper. Only private clauses, the model of a page and proofs use these
 -- definitions; those of a whole list of commands are proved to agree with them.
-use Rattle.std.specs.Prelude.{ℕ, ◌-◌, ◌&&◌, not, Bool, List, [], ◌∷◌, ◌++◌, Option, None, if◌then◌else◌, vec_len, vec_capacity}
+use Rattle.std.specs.Prelude.{ℕ, ◌-◌, ◌&&◌, not, Bool, true, List, [], ◌∷◌, ◌++◌, Option, None, if◌then◌else◌, vec_len, vec_capacity}
 use Rattle.escpos_command.specs.declared.command.Command.{Command}
 use Rattle.escpos_command.specs.declared.command.Command.TheVariants as kind
 use Rattle.escpos_command.specs.Meanings.{leaves_a_point}
@@ -73,6 +73,7 @@ step_prints width s stored row (kind.FeedUnits n) = row_of s.lines row ++ FeedUn
 step_prints width s stored row (kind.Bars barcode) = row_and_feed s.lines row ++ bars_item s.lines.alignment s.bars barcode ∷ []
 step_prints width s stored row (kind.Raster raster) = row_and_feed s.lines row ++ raster_item s.lines.alignment raster ∷ []
 step_prints width s stored row (kind.Cut cut) = row_and_feed s.lines row ++ Cut (leaves_a_point cut.0) cut.1 ∷ []
+step_prints width s stored row (kind.OldCut b) = row_and_feed s.lines row ++ Cut true None ∷ []
 step_prints width s stored row kind.QrPrint = prints_stored s.lines s.codes stored row
 step_prints width s stored row _ = []
 

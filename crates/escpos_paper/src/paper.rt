@@ -7,7 +7,6 @@
 ghost use Rattle.std.specs.Prelude.{◌≡◌, ◌+◌, ◌≤◌, ℕ, IsTrue, [], ◌∷◌, ◌++◌, length, map, take, if◌then◌else◌, None, true, vec_len, vec_capacity};
 ghost use Rattle.escpos_command.specs.declared.command.Command.TheVariants as kind;
 ghost use Rattle.escpos_command.specs.declared.command.Command.TheVariants.{Set};
-ghost use Rattle.escpos_command.specs.Meanings.{leaves_a_point};
 ghost use Rattle.escpos_command.specs.Settings.{sets_stored};
 ghost use Rattle.escpos_command.specs.Text.{is_some};
 ghost use Rattle.escpos_paper.specs.Printed.{row_of, row_and_feed, bars_item, raster_item, prints_stored};
@@ -24,7 +23,7 @@ use crate::print_buffer::PrintBuffer;
 use crate::qr_store::QrStore;
 use crate::style::{LineStyle, Settings, Style};
 use escpos_command::{
-    Bars, Command, Cut, LineWidth, Raster, SettingKind, choice, face_of, hri_position_of,
+    Bars, Command, LineWidth, Raster, SettingKind, choice, face_of, hri_position_of,
 };
 use std::alloc::Global;
 
@@ -105,7 +104,8 @@ impl Paper {
             Command::FeedUnits(units) => self.feed_units(units.byte()),
             Command::Bars(bars) => self.print_bars(bars),
             Command::Raster(raster) => self.print_raster(raster),
-            Command::Cut(cut) => self.print_cut(cut),
+            Command::Cut(cut) => self.print_cut(cut.is_partial(), cut.feed()),
+            Command::OldCut(_) => self.print_cut(true, None),
             Command::QrPrint => self.print_stored(),
             Command::QrStore(stored) => self.store.store(stored),
             Command::QrModel(model) => self.settings.codes.model = model.number(),
@@ -235,19 +235,16 @@ impl Paper {
 
     // Ends the line and cuts.
     #[inline(never)]
-    fn print_cut(&mut self, cut: Cut)
+    fn print_cut(&mut self, partial: bool, feed: Option<u8>)
         requires { vec_len self.old.items + MOST_ITEMS ≤ vec_capacity self.old.items }
         ensures items { self.new.items.items
-            ≡ self.old.items.items ++ row_and_feed self.old.settings.lines self.old.line ++ item.Cut (leaves_a_point cut.0) cut.1 ∷ [] }
+            ≡ self.old.items.items ++ row_and_feed self.old.settings.lines self.old.line ++ item.Cut partial feed ∷ [] }
         ensures line_width { self.new.line_width ≡ self.old.line_width }
         ensures settings { self.new.settings ≡ self.old.settings }
         ensures store { self.new.store ≡ self.old.store }
         ensures line { self.new.line ≡ [] }
     {
-        self.print(Item::Cut {
-            partial: cut.is_partial(),
-            feed: cut.feed(),
-        });
+        self.print(Item::Cut { partial, feed });
     }
 
     // Ends the line and prints the QR code of the data that is stored; does nothing if none is.

@@ -74,6 +74,7 @@ command_starts (kind.QrLevel n) h = starts GS _ gs
 command_starts (kind.QrStore stored) h = starts GS _ gs
 command_starts kind.QrPrint h = starts GS _ gs
 command_starts (kind.Cut cut) h = starts GS _ gs
+command_starts (kind.OldCut b) h = starts ESC _ esc
 command_starts (kind.AutomaticStatus n) h = starts GS _ gs
 command_starts (kind.Status n) h = starts DLE _ (omega arith, λ e. omega (arith, e))
 command_starts (kind.Mark id) h = starts GS _ gs

@@ -23,6 +23,7 @@ needs_empty_line (kind.Bars bars) = true
 needs_empty_line (kind.Raster raster) = true
 needs_empty_line kind.QrPrint = true
 needs_empty_line (kind.Cut cut) = true
+needs_empty_line (kind.OldCut b) = true
 needs_empty_line _ = false
 
 abbrev pub is_nonempty : {X : Type 0} → List X → Bool

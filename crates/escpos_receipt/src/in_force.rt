@@ -98,7 +98,8 @@ impl LineState {
             | Command::Init
             | Command::Bars(_)
             | Command::Raster(_)
-            | Command::Cut(_) => false,
+            | Command::Cut(_)
+            | Command::OldCut(_) => false,
             _ => self.in_line,
         }
     }

@@ -180,7 +180,7 @@ pub fn needs_empty_line(command: &Command) -> bool
 {
     matches!(
         command,
-        Command::Bars(_) | Command::Raster(_) | Command::QrPrint | Command::Cut(_)
+        Command::Bars(_) | Command::Raster(_) | Command::QrPrint | Command::Cut(_) | Command::OldCut(_)
     )
 }
 
@@ -205,5 +205,6 @@ fn ends_text(command: &Command) -> bool
             | Command::Raster(_)
             | Command::QrPrint
             | Command::Cut(_)
+            | Command::OldCut(_)
     )
 }

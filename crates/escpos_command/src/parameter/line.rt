@@ -2,7 +2,7 @@
 
 ghost use Rattle.std.specs.Prelude.{◌≡◌, ℕ, IsTrue, Some, None};
 ghost use Rattle.std.specs.Option.{SomeIff};
-ghost use Rattle.escpos_command.specs.Parameters.{is_byte, is_cut, is_pulse, is_status_kind};
+ghost use Rattle.escpos_command.specs.Parameters.{is_old_cut, is_byte, is_cut, is_pulse, is_status_kind};
 ghost use Rattle.escpos_command.specs.Meanings.{leaves_a_point, all_but_drawer, reports};
 
 use std::marker::Model;
@@ -198,6 +198,45 @@ impl Cut {
         ensures { result ≡ leaves_a_point self.0 }
     {
         matches!(self.mode, 1 | 49 | 66 | 98 | 104)
+    }
+}
+
+/// A cut of the older form, which leaves some points uncut: ESC i one, ESC m three. (Reference: ESC i, ESC m.)
+#[derive(Clone, Copy, Debug, PartialEq, Eq)]
+pub struct OldCut {
+    letter: u8,
+}
+
+impl Model for OldCut {
+    ghost use Rattle.std.specs.Prelude.{ℕ, IsTrue};
+    ghost use Rattle.escpos_command.specs.Parameters.{is_old_cut};
+
+    ghost Value = { ℕ };
+
+    ghost view = { λ c. c.letter };
+
+    ghost invariant = { λ c. IsTrue (is_old_cut c.letter) };
+
+    ghost inverse = { λ n. record { letter = n } };
+}
+
+impl OldCut {
+    /// The cut of this letter; `None` for all but i and m.
+    pub fn new(letter: u8) -> Option<Self>
+        ensures { SomeIff result (IsTrue (is_old_cut letter)) letter }
+    {
+        match letter {
+            b'i' | b'm' => Some(OldCut { letter }),
+            _ => None,
+        }
+    }
+
+    /// The letter as sent: i or m.
+    pub fn letter(self) -> u8
+        ensures kept { result ≡ self }
+        ensures range { IsTrue (is_old_cut self) }
+    {
+        self.letter
     }
 }
 
