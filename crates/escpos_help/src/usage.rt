@@ -122,9 +122,9 @@ of a printer that knows them may differ.
           1B 64     ESC d   taken
           1B 65     ESC e   refused: feeds backwards
           1B 66     ESC f   refused: of few printers
-          1B 69     ESC i   refused: an older form of a cut; GS V is taken
+          1B 69     ESC i   taken
           1B 6C     ESC l   refused: of few printers
-          1B 6D     ESC m   refused: an older form of a cut; GS V is taken
+          1B 6D     ESC m   taken
           1B 70     ESC p   taken
           1B 71     ESC q   refused: of few printers
           1B 75     ESC u   refused: a status request; DLE EOT is taken

@@ -82,7 +82,7 @@ const COUNT_BYTE: Counted = Counted {
 };
 
 /// How many rows there are.
-pub const COUNT: usize = 120;
+pub const COUNT: usize = 118;
 
 // A row for each line: its prefix, how the length of what follows is told, and the third byte with which it isn't the command.
 macro_rules! rows {
@@ -163,12 +163,8 @@ pub const TABLE: [Row; COUNT] = rows! {
     Prefix::Two(ESC, b'e'), Form::Fixed(1), None;
     // ESC f
     Prefix::Two(ESC, b'f'), Form::Fixed(2), None;
-    // ESC i
-    Prefix::Two(ESC, b'i'), Form::Fixed(0), None;
     // ESC l
     Prefix::Two(ESC, b'l'), Form::Fixed(1), None;
-    // ESC m
-    Prefix::Two(ESC, b'm'), Form::Fixed(0), None;
     // ESC q
     Prefix::Two(ESC, b'q'), Form::Fixed(0), None;
     // ESC u

@@ -4,7 +4,7 @@ use escpos_passed::{Found, find};
 use std::process::Abort;
 
 // A whole command each: single bytes, real-time requests, and those that begin with ESC.
-const ESC_EXAMPLES: [(&str, &[u8]); 42] = [
+const ESC_EXAMPLES: [(&str, &[u8]); 40] = [
     ("HT", b"\x09"),
     ("FF", b"\x0C"),
     ("DLE EOT", b"\x10\x04\x05"),
@@ -41,9 +41,7 @@ const ESC_EXAMPLES: [(&str, &[u8]); 42] = [
     ("ESC c 1", b"\x1B\x63\x31\x01"),
     ("ESC e", b"\x1B\x65\x01"),
     ("ESC f", b"\x1B\x66\x01\x02"),
-    ("ESC i", b"\x1B\x69"),
     ("ESC l", b"\x1B\x6C\x04"),
-    ("ESC m", b"\x1B\x6D"),
     ("ESC q", b"\x1B\x71"),
     ("ESC u", b"\x1B\x75\x00"),
     ("ESC v", b"\x1B\x76"),

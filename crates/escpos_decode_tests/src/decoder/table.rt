@@ -92,7 +92,7 @@ fn begins_anew_after_a_fault(rt: HostRuntime) {
 
 // The bytes before a parameter, the parameters that are read there (the least and the greatest, and the
 // ends of each range between them), and their nearest neighbours, which are refused.
-const PARAMETERS: [(&[u8], &[u8], &[u8]); 30] = [
+const PARAMETERS: [(&[u8], &[u8], &[u8]); 32] = [
     (&[0x1B, 0x20], &[0, 255], &[]),
     (&[0x1B, 0x72], &[0, 1, 48, 49], &[2, 47, 50]),
     (&[0x1B, 0x21], &[0, 255], &[]),
@@ -113,9 +113,15 @@ const PARAMETERS: [(&[u8], &[u8], &[u8]); 30] = [
     ),
     (&[0x1D, 0x42], &[0, 255], &[]),
     (&[0x1D, 0x48], &[0, 3, 48, 51], &[4, 47, 52]),
-    (&[0x1D, 0x56], &[0, 1, 48, 49], &[2, 47, 50, 64, 67]),
+    (
+        &[0x1D, 0x56],
+        &[0, 1, 48, 49],
+        &[2, 47, 50, 64, 67, 96, 99, 102, 105],
+    ),
     (&[0x1D, 0x56, 65], &[0, 255], &[]),
     (&[0x1D, 0x56, 66], &[0, 255], &[]),
+    (&[0x1D, 0x56, 97], &[0, 255], &[]),
+    (&[0x1D, 0x56, 104], &[0, 255], &[]),
     (&[0x1D, 0x62], &[0, 255], &[]),
     (&[0x1D, 0x66], &[0, 1, 48, 49], &[2, 47, 50]),
     (&[0x1D, 0x68], &[1, 255], &[0]),

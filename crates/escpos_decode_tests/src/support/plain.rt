@@ -5,7 +5,7 @@
 
 use escpos_command::{
     Bars, CR, Character, Command, Cut, DLE, EOT, ESC, FS, FaultReason, FeedLines, FeedUnits, Form,
-    GS, LF, MarkId, Pulse, QrData, QrLevel, QrModel, QrSize, Raster, Reporting, Setting,
+    GS, LF, MarkId, OldCut, Pulse, QrData, QrLevel, QrModel, QrSize, Raster, Reporting, Setting,
     SettingKind, StatusKind, Symbology,
 };
 use std::alloc::Global;
@@ -70,6 +70,7 @@ fn spelled_by_escape(rt: &impl Abort, rest: &[u8]) -> Option<Command> {
         [b'-', n @ (0..=2 | 48..=50)] => set(rt, SettingKind::Underline, *n),
         b"2" => alone(rt, SettingKind::DefaultSpacing),
         b"<" => alone(rt, SettingKind::Home),
+        b"i" | b"m" => Command::OldCut(OldCut::new(rest[0]).expect(rt, "a letter")),
         [b' ', n] => set(rt, SettingKind::CharacterSpacing, *n),
         [b'r', n @ (0 | 1 | 48 | 49)] => set(rt, SettingKind::Color, *n),
         [b'=', n] => set(rt, SettingKind::Devices, *n),
@@ -102,7 +103,9 @@ fn spelled_by_group(rt: &impl Abort, rest: &[u8]) -> Option<Command> {
         [b'B', n] => set(rt, SettingKind::Reverse, *n),
         [b'H', n @ (0..=3 | 48..=51)] => set(rt, SettingKind::HriPlace, *n),
         [b'V', m @ (0 | 1 | 48 | 49)] => Command::Cut(Cut::new(*m).expect(rt, "a parameter")),
-        [b'V', m @ (65 | 66), n] => Command::Cut(Cut::with_feed(*m, *n).expect(rt, "a parameter")),
+        [b'V', m @ (65 | 66 | 97 | 98 | 103 | 104), n] => Command::Cut(Cut::with_feed(
+            *m, *n,
+        ).expect(rt, "a parameter")),
         [b'a', n] => Command::AutomaticStatus(Reporting::new(*n)),
         [b'b', n] => set(rt, SettingKind::Smoothing, *n),
         [b'f', n @ (0 | 1 | 48 | 49)] => set(rt, SettingKind::HriFont, *n),
@@ -198,7 +201,7 @@ fn begins_after_group(rest: &[u8]) -> bool {
         [b'(', b'H', 6, 0] => true,
         [b'(', b'H', 6, 0, b'0'] => true,
         [b'(', b'H', 6, 0, b'0', b'0', id @ ..] => id.len() < 4 && is_id(id),
-        [b'V', 65 | 66] => true,
+        [b'V', 65 | 66 | 97 | 98 | 103 | 104] => true,
         _ => false,
     }
 }
