@@ -7,7 +7,7 @@ use escpos_test_receipts::filled;
 use std::alloc::Global;
 use std::process::Abort;
 
-const CHECKED: [Row; 18] = [
+const CHECKED: [Row; 19] = [
     // empty_input
     (b"", b"end 0 pending 0\n", Status::Good),
     // five_commands
@@ -61,6 +61,11 @@ const CHECKED: [Row; 18] = [
     (
         b"1D 56 41 05",
         b"0 cut 41 05\nend 4 pending 0\n",
+        Status::Good,
+    ),
+    (
+        b"1D 56 68 05 1B 69 1B 6D 1B 72 31",
+        b"0 cut 68 05\n4 oldcut 69\n6 oldcut 6d\n8 color 31\nend 11 pending 0\n",
         Status::Good,
     ),
 ];

@@ -54,7 +54,7 @@ fn rows_of_render(rt: HostRuntime) {
     assert!(&rt; performs_rows(rt.alloc(), render_task(), &RENDERED, &[1, 4096]));
 }
 
-const RENDERED_CONTENTS: [Row; 23] = [
+const RENDERED_CONTENTS: [Row; 25] = [
     // ean13
     (
         b"1D 6B 02 34 30 30 36 33 38 31 33 33 33 39 33 00",
@@ -87,6 +87,17 @@ const RENDERED_CONTENTS: [Row; 23] = [
     (
         b"41 1D 76 30 00 01 00 01 00 FF",
         b"row left A\nfeed 1\nraster left normal 1 1 ff\n",
+        Status::Good,
+    ),
+    // cuts of every form
+    (
+        b"41 0A 1B 69 1B 6D 1D 56 61 00 1D 56 62 05 1D 56 67 FF 1D 56 68 01",
+        b"row left A\nfeed 1\ncut partial\ncut partial\ncut full 0\ncut partial 5\ncut full 255\ncut partial 1\n",
+        Status::Good,
+    ),
+    (
+        b"41 1B 69",
+        b"row left A\nfeed 1\ncut partial\n",
         Status::Good,
     ),
     // units_and_pulse
