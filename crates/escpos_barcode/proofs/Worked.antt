@@ -160,8 +160,8 @@ lower_case : elements Codabar (codes "a1d") ≡ elements Codabar (codes "A1D")
 unfolding set_a set_b right_digits left_digits parity_rows parities code39_data code39_star itf_rows itf_digits codabar_table code128_rows code128_table
 lower_case = refl
 
--- data alone is shown, and two digits a byte in set C
-shown_braces : shown Code128 (codes "{B{{x{1{C" ++ 7 ∷ 12 ∷ []) ≡ codes "{x0712"
+-- data is shown, two digits a byte in set C, and a function character as a space
+shown_braces : shown Code128 (codes "{B{{x{1{C" ++ 7 ∷ 12 ∷ []) ≡ codes "{x 0712"
 unfolding set_a set_b right_digits left_digits parity_rows parities code39_data code39_star itf_rows itf_digits codabar_table code128_rows code128_table
 shown_braces = refl
 

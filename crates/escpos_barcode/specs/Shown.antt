@@ -5,7 +5,7 @@ use Rattle.escpos_command.specs.declared.bars.Symbology.TheVariants.{Code128}
 use Rattle.escpos_barcode.specs.declared.code128.CodeSet.{CodeSet}
 use Rattle.escpos_barcode.specs.declared.code128.CodeSet.TheVariants.{A, B, C}
 use Rattle.escpos_barcode.specs.declared.code128.Character.{Character}
-use Rattle.escpos_barcode.specs.declared.code128.Character.TheVariants.{Byte}
+use Rattle.escpos_barcode.specs.declared.code128.Character.TheVariants.{Byte, Function1, Function2, Function3, Function4, Shift, Code}
 use Rattle.escpos_barcode.specs.Code128.{characters, set_after}
 
 abbrev pub is_printable : ℕ → Bool
@@ -21,10 +21,15 @@ shown_byte A b = printable b ∷ []
 shown_byte B b = printable b ∷ []
 shown_byte C b = (0x30 + b / 10 % 10) ∷ (0x30 + b % 10) ∷ []
 
--- Only data is shown.
+-- Data is shown, and a function character as a space.
 abbrev pub shown_character : CodeSet → Character → List ℕ
 shown_character set (Byte b) = shown_byte set b
-shown_character set c = []
+shown_character set Function1 = 0x20 ∷ []
+shown_character set Function2 = 0x20 ∷ []
+shown_character set Function3 = 0x20 ∷ []
+shown_character set Function4 = 0x20 ∷ []
+shown_character set Shift = []
+shown_character set (Code next) = []
 
 abbrev pub shown_characters : CodeSet → List Character → List ℕ
 shown_characters set [] = []

@@ -80,7 +80,7 @@ fn shown_characters(characters: &[Character]) -> ArrayVec<u8, MOST_SHOWN>
     text
 }
 
-// Appends a character that stands in a code set, if it is data.
+// Appends a character that stands in a code set: its data, a space for a function, and nothing for a shift or a code set.
 fn append_character(text: &mut ArrayVec<u8, MOST_SHOWN>, set: CodeSet, character: Character)
     requires { length text.old.items + 2 ≤ MOST_SHOWN }
     ensures text { text.new.items ≡ text.old.items ++ shown_character set character }
@@ -92,7 +92,14 @@ fn append_character(text: &mut ArrayVec<u8, MOST_SHOWN>, set: CodeSet, character
             text.push(b'0' + byte % 10);
         }
         (_, Character::Byte(byte)) => text.push(printable(byte)),
-        _ => {}
+        (
+            _,
+            Character::Function1
+            | Character::Function2
+            | Character::Function3
+            | Character::Function4,
+        ) => text.push(b' '),
+        (_, Character::Shift | Character::Code(_)) => {}
     }
 }
 

@@ -3,7 +3,7 @@ use Rattle.std.proofs.Common.{◌≡◌, ◌≢◌, ℕ, List, [], ◌∷◌, �
 use Rattle.std.proofs.lemmas.Grind.{flat_map-append}
 use Rattle.std.proofs.Math.Seq.{append_snoc}
 use Rattle.escpos_command.specs.declared.command.Command.{Command}
-use Rattle.escpos_command.specs.declared.command.Command.TheVariants.{Char, LineFeed, Init, FeedLines, FeedUnits, Bars, Raster, QrPrint, Cut}
+use Rattle.escpos_command.specs.declared.command.Command.TheVariants.{Char, LineFeed, Init, FeedLines, FeedUnits, Bars, Raster, QrPrint, Cut, OldCut}
 use Rattle.escpos_command.specs.Text.{characters, is_some}
 use Rattle.escpos_paper.specs.declared.cell.Cell.{Cell}
 use Rattle.escpos_paper.specs.declared.item.Item.{Item}
@@ -58,6 +58,7 @@ one_command s (FeedUnits n) h = before_others (row_of s.settings.lines s.line) _
 one_command s (Bars bars) h = before_others (row_and_feed s.settings.lines s.line) _ s.line (cells_of_row_and_feed s.settings.lines s.line) refl
 one_command s (Raster raster) h = before_others (row_and_feed s.settings.lines s.line) _ s.line (cells_of_row_and_feed s.settings.lines s.line) refl
 one_command s (Cut how) h = before_others (row_and_feed s.settings.lines s.line) _ s.line (cells_of_row_and_feed s.settings.lines s.line) refl
+one_command s (OldCut b) h = before_others (row_and_feed s.settings.lines s.line) _ s.line (cells_of_row_and_feed s.settings.lines s.line) refl
 one_command s QrPrint h = at_stored s.settings.lines s.settings.codes s.stored s.line
 one_command s Init h = absurd (h refl)
 one_command s c h = sym (append-nil s.line)
