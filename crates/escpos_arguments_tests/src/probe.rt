@@ -2,7 +2,7 @@
 
 use crate::support::asking::printer;
 use escpos_arguments::{Shell, completions_of, is_completions_word, is_probe_word, probe_task_of};
-use escpos_help::usage::USAGE;
+use escpos_help::texts::USAGE;
 use escpos_jobs::task::NoTask;
 use escpos_probe::ProbeTask;
 

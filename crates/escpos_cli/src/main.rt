@@ -14,7 +14,8 @@ pub use escpos_arguments::{
     asks_version, completions_of, is_completions_word, is_probe_word, is_till_word, probe_task_of,
     task_of, till_task_of, without_name,
 };
-use escpos_help::usage::{VERSION, say_help};
+use escpos_help::texts::VERSION;
+use escpos_help::usage::say_help;
 use escpos_io::{ByteIn, ByteOut, Incoming, Outgoing};
 use escpos_job_parts::ending::say;
 pub use escpos_job_parts::status;

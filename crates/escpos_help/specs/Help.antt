@@ -5,7 +5,7 @@ use Rattle.escpos_command.specs.Reference.{name_of}
 use Rattle.escpos_command.specs.SettingTable.{table}
 use Rattle.escpos_command.specs.declared.bytes.TheConstants.{ESC, FS, GS}
 use Rattle.escpos_command.specs.declared.setting.Row.{Row}
-use Rattle.escpos_help.specs.declared.usage.TheConstants.{HELP_END, HELP_START}
+use Rattle.escpos_help.specs.declared.texts.TheConstants.{HELP_END, HELP_START}
 
 -- A digit.
 abbrev pub digit : ℕ → ℕ

@@ -18,7 +18,8 @@ ghost use Rattle.escpos_receipt.specs.declared.options.ReceiptOptions.{ReceiptOp
 use crate::task::{NoTask, Task};
 use escpos_addresses::printer_link::Printers;
 use escpos_addresses::wait::Within;
-use escpos_help::usage::{USAGE, say_all};
+use escpos_help::texts::USAGE;
+use escpos_help::usage::say_all;
 use escpos_io::{ByteIn, ByteOut};
 use escpos_job_parts::ending::{MEMORY, say};
 use escpos_job_parts::status::Status;

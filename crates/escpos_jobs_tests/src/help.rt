@@ -4,7 +4,8 @@
 
 use crate::support::tasks::{Named, task};
 use escpos_decode::Decoder;
-use escpos_help::usage::{USAGE, VERSION, say_all, say_help};
+use escpos_help::texts::{USAGE, VERSION};
+use escpos_help::usage::{say_all, say_help};
 use escpos_host::JsonFault;
 use escpos_io::{ByteIn, MemoryIn, MemoryOut};
 use escpos_job_parts::status::Status;
@@ -277,14 +278,14 @@ fn taken_and_refused(rt: &impl Abort, alloc: Global, help: &str) -> (u32, u32) {
     (taken, refused)
 }
 
-// Two lists of the help say which commands are taken. The first has the commands by their bytes: 13 are taken, and 85 are refused.
-// The second has the 26 commands that only set something, one for each row of their table.
+// Two lists of the help say which commands are taken. The first has the commands by their bytes: 15 are taken, and 82 are refused.
+// The second has the 27 commands that only set something, one for each row of their table.
 #[test]
 fn help_has_what_is_taken_and_refused(rt: HostRuntime) {
     let mut room = [0; HELP_BYTES];
     let (taken, refused) = taken_and_refused(&rt, rt.alloc(), whole_help(&rt, &mut room));
-    assert!(rt; taken == 39, "13 and 26");
-    assert!(rt; refused == 85);
+    assert!(rt; taken == 42, "15 and 27");
+    assert!(rt; refused == 82);
 }
 
 // The help has the number and the name of a reason.

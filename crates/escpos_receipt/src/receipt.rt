@@ -180,7 +180,11 @@ pub fn needs_empty_line(command: &Command) -> bool
 {
     matches!(
         command,
-        Command::Bars(_) | Command::Raster(_) | Command::QrPrint | Command::Cut(_) | Command::OldCut(_)
+        Command::Bars(_)
+            | Command::Raster(_)
+            | Command::QrPrint
+            | Command::Cut(_)
+            | Command::OldCut(_)
     )
 }
 

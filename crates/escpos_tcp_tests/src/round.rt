@@ -2,7 +2,7 @@
 
 use crate::support::sockets::listens;
 use escpos_command::LineWidth;
-use escpos_help::usage::HELP_END;
+use escpos_help::texts::HELP_END;
 use escpos_io::{MemoryIn, MemoryOut};
 use escpos_job_parts::condition::ONLINE;
 use escpos_job_parts::status::Status;

@@ -1,7 +1,7 @@
 use Rattle.std.proofs.Common.{subst}
 use Rattle.std.specs.Io.KnownBytes.{Appends}
 use Rattle.std.proofs.KnownBytes.{Appends-trans}
-use Rattle.escpos_help.specs.declared.usage.TheConstants.{HELP_END, HELP_START}
+use Rattle.escpos_help.specs.declared.texts.TheConstants.{HELP_END, HELP_START}
 use Rattle.escpos_help.proofs.usage.put_help.Goals as goal
 
 pub returns-clause-all : goal.returns-clause-all
