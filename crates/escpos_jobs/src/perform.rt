@@ -11,7 +11,7 @@ ghost use Rattle.escpos_job_parts.specs.Ending.{PrintsText, memory_line, job_end
 ghost use Rattle.escpos_stream_jobs.specs.Image.{MakesEntries};
 ghost use Rattle.escpos_script.specs.Play.{Plays};
 ghost use Rattle.escpos_help.specs.Help.{help_text};
-ghost use Rattle.escpos_help.specs.declared.usage.TheConstants.{USAGE};
+ghost use Rattle.escpos_help.specs.declared.texts.TheConstants.{USAGE};
 ghost use Rattle.escpos_jobs.specs.Perform.{ReadsInput, UsesLinks};
 ghost use Rattle.escpos_receipt.specs.declared.options.ReceiptOptions.{ReceiptOptions};
 
