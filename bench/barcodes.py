@@ -66,19 +66,21 @@ PATTERNS = {
 def code128(content):
     """Returns the values of a content of CODE128 from the start on, and its data as text; nothing if its code sets don't have it."""
     words = re.findall(r"\{.|[^{]", content, re.DOTALL)
-    current, values, text, is_shifted = words[0][1], [103 + "ABC".index(words[0][1])], "", False
+    current, values, text, has_data, is_shifted = words[0][1], [103 + "ABC".index(words[0][1])], "", False, False
     for word in words[1:]:
         table = {"A": "B", "B": "A"}[current] if is_shifted else current
         if word in DATA[table]:
             values.append(DATA[table][word])
             text += "%02d" % ord(word) if table == "C" else word[0] if " " <= word[0] <= "~" else " "
+            has_data = True
         elif word in OTHERS[table] and not is_shifted:
             values.append(OTHERS[table][word])
+            text += " " if word[1] in "1234" else ""
             current = word[1] if word[1] in "ABC" else current
         else:
             return None
         is_shifted = word == "{S"
-    return (values, text) if text and not is_shifted and "".join(words) == content else None
+    return (values, text) if has_data and not is_shifted and "".join(words) == content else None
 
 
 def patterns(kind, content):

@@ -199,7 +199,7 @@ def reason(half):
         return 5
     if half[:3] == b"\x1d(k" and len(half) in (5, 6):
         return 2
-    return 1 if not half else 2 if len(half) == 1 or half in (b"\x1d(", b"\x1dv") else 3
+    return 1 if not half else 2 if len(half) == 1 or half in (b"\x1d(", b"\x1dv", b"\x1bc") else 3
 
 
 def try_listing(stream, status, lines):
@@ -269,6 +269,19 @@ def note_of(line):
     content = bytes.fromhex(values[1])
     right = check_digit(content[:-1]) if len(content) == FULL_LENGTHS.get(int(values[0], 16) % 65) else None
     return None if right is None or content[-1] - 48 == right else f"note {place} check digit {content[-1] - 48}, right {right}"
+
+
+def notes_of(lines, stream):
+    """Returns the notes of a listing: of wrong check digits, and of real-time commands in the data of others."""
+    notes = []
+    for line in lines[:-1]:
+        if line.startswith("note "):
+            continue
+        notes += [note] if (note := note_of(line)) else []
+        place, name = line.split(" ")[:2]
+        if name != "status" and re.search(rb"\x10(\x04[\x01-\x08]|\x05[\x00-\x02]|\x14[\x01-\x03\x06-\x08])", respelled(line, stream)):
+            notes.append(f"note {place} real-time")
+    return notes
 
 
 def width_of(cells):

@@ -60,7 +60,7 @@ def try_stream(pick):
         noisy = b"".join(spelling + pick.choice(silent) for spelling, _ in commands)
         hold(paper_of(whole) == paper_of(noisy), "what leaves nothing on paper changes it")
     notes = [line for line in lines if line.startswith("note ")]
-    hold(notes == [note for line in lines if (note := note_of(line))], "the notes are wrong")
+    hold(notes == notes_of(lines, stream), "the notes are wrong")
     hold(run("check", formatted(pick, stream)) == (status, "".join(line + "\n" for line in lines)), "the form of the digits matters")
     some = stream[: pick.randint(0, len(stream))]
     some_lines = lines_of("check", some)[1]
