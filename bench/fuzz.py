@@ -4,13 +4,13 @@ The tables and the reading of JSON here are written on their own, from what docs
 """
 import json, math, re
 
-from barcodes import qr_side, widths
+from barcodes import expanded, qr_side, widths
 from text import Encoding, NoCharacter
 
 MARKS = 36**4  # ids of marks, which come round
 
 # Commands of one spelling; and those of fixed bytes with one parameter byte, with what that may be.
-PLAIN = {"lf": b"\n", "cr": b"\r", "init": b"\x1b@", "spacing default": b"\x1b2", "home": b"\x1b<", "kanji off": b"\x1c.", "qrprint": b"\x1d(k\x03\x001Q0"}
+PLAIN = {"tab": b"\t", "lf": b"\n", "cr": b"\r", "init": b"\x1b@", "spacing default": b"\x1b2", "home": b"\x1b<", "kanji off": b"\x1c.", "qrprint": b"\x1d(k\x03\x001Q0"}
 WITH_BYTE = {
     "char": (b"", range(32, 256)),
     "mode": (b"\x1b!", range(256)),
@@ -32,6 +32,7 @@ WITH_BYTE = {
     "smooth": (b"\x1db", range(256)),
     "unidirectional": (b"\x1bU", range(256)),
     "charspacing": (b"\x1b ", range(256)),
+    "turned": (b"\x1bV", (0, 1, 2, 48, 49, 50)),
     "color": (b"\x1br", (0, 1, 48, 49)),
     "devices": (b"\x1b=", range(256)),
     "endsensors": (b"\x1bc3", range(256)),
@@ -45,20 +46,27 @@ WITH_BYTE = {
     "qrlevel": (b"\x1d(k\x03\x001E", range(48, 52)),
 }
 WITH_BYTES = {"cut": b"\x1dV", "pulse": b"\x1bp", "mark": b"\x1d(H\x06\x0000"}
+# Commands with a number of two bytes, the low one first, and numbers that they often have.
+WITH_NUMBER_OF_TWO_BYTES = {"position": b"\x1b$", "move": b"\x1b\\", "margin": b"\x1dL", "width": b"\x1dW"}
+OFTEN = (0, 1, 12, 100, 300, 511, 512, 513, 1024, 32767, 32768, 65535 - 11, 65535)
 SCALES = (0, 1, 2, 3, 48, 49, 50, 51)
 MOST_QR_DATA = 7089
 LEVELS = "LMQH"
-# The content of each symbology by its m in form A; in form B that is 65 more, and CODE128 has only that form.
+# The content of each symbology by its m in form A; in form B that is 65 more, and CODE93, CODE128 and GS1-128 have only that form.
 CONTENTS = {
     0: rb"\d{11,12}",
+    1: rb"\d{6}|0(\d{6,7}|\d{10,11})",
     2: rb"\d{12,13}",
     3: rb"\d{7,8}",
     4: rb"[0-9A-Z $%*+./-]{1,255}",
     5: rb"(\d\d){1,127}",
     6: rb"[A-Da-d][0-9$+./:-]{0,253}[A-Da-d]",
+    7: rb"[\x00-\x7f]{1,255}",
     8: rb"\{[ABC][\x00-\x7f]{0,253}",
+    9: rb"[\x00-\x7f]{2,255}",
 }
-KINDS = {"upca": 0, "ean13": 2, "ean8": 3, "code39": 4, "itf": 5, "codabar": 6, "code128": 8}
+ONLY_FORM_B = (7, 8, 9)
+KINDS = {"upca": 0, "upce": 1, "ean13": 2, "ean8": 3, "code39": 4, "itf": 5, "codabar": 6, "code93": 7, "code128": 8, "gs1_128": 9}
 FULL_LENGTHS = {0: 12, 2: 13, 3: 8}
 REASONS = {1: "UnknownByte", 2: "UnknownCommand", 3: "BadParameter", 4: "BadBarcode", 5: "BadSize"}
 
@@ -87,6 +95,12 @@ def some_content(pick, symbology):
         return bytes([pick.choice(b"ABCDabcd"), *pick.choices(b"0123456789$+./:-", k=several - 1), pick.choice(b"ABCDabcd")])
     if symbology == 8:
         return b"{" + bytes([pick.choice(b"ABC"), *pick.choices(range(128), k=several)])
+    if symbology == 7:
+        return bytes(pick.choices(range(128), k=several))
+    if symbology == 9:
+        return pick.choice((b"(01)", b"12")) + bytes(pick.choices(b"0123456789abc()*{1 \t", k=several))
+    if symbology == 1:
+        return pick.choice((b"", b"0")) + bytes(pick.choices(b"0123456789", k=6)) if several > 2 else b"01200000" + bytes(pick.choices(b"0123456789", k=several + 2))
     count = 2 * several if symbology == 5 else FULL_LENGTHS[symbology] - pick.randrange(2)
     return bytes(pick.choices(b"0123456789", k=count))
 
@@ -106,22 +120,33 @@ def check_digit(digits):
     return -sum((digit - 48) * (1 if at % 2 else 3) for at, digit in enumerate(reversed(digits))) % 10
 
 
+def upca_digits(digits):
+    """Returns the digits of UPC-A that those of UPC-E mean, both without check digit."""
+    return digits if len(digits) == 11 else expanded(digits[-6:].decode()).encode()
+
+
 def some_command(pick):
     """Returns the bytes of a command, and its line in a listing without the place."""
-    name = pick.choice(("char",) * 20 + ("lf",) * 5 + (*PLAIN, *WITH_BYTE, *WITH_BYTES, *("bars", "raster", "qrstore", "qrprint") * 2, "qrmodel"))
+    name = pick.choice(("char",) * 20 + ("lf",) * 5 + (*PLAIN, *WITH_BYTE, *WITH_BYTES, *WITH_NUMBER_OF_TWO_BYTES, "tabstops", *("bars", "raster", "qrstore", "qrprint") * 2, "qrmodel"))
     if name in PLAIN:
         return PLAIN[name], name
     if name in WITH_BYTE and (name != "cut" or pick.randrange(2)):
         front, values = WITH_BYTE[name]
         byte = bytes([pick.choice(values)])
         return front + byte, f"{name} {byte.hex()}"
+    if name in WITH_NUMBER_OF_TWO_BYTES:
+        number = pick.choice((*OFTEN, pick.randrange(600), pick.randrange(65536))).to_bytes(2, "little")
+        return WITH_NUMBER_OF_TWO_BYTES[name] + number, f"{name} {number.hex(' ')}"
+    if name == "tabstops":
+        columns = bytes(sorted(pick.sample(range(1, pick.choice((43, 256))), k=pick.choice((0, 1, 3, 32)))))
+        return b"\x1bD" + columns + b"\0", name + "".join(f" {column:02x}" for column in columns)
     if name == "mark":
         id_bytes = bytes(pick.choices(range(32, 127), k=4))
         return WITH_BYTES[name] + id_bytes, f"mark {id_bytes.decode()}"
     if name == "bars":
         symbology = pick.choice(list(CONTENTS))
         content = some_content(pick, symbology)
-        form = 65 if symbology == 8 else pick.choice((0, 65))
+        form = 65 if symbology in ONLY_FORM_B else pick.choice((0, 65))
         spelled = bytes([symbology + form, len(content)]) + content if form else bytes([symbology]) + content + b"\0"
         return b"\x1dk" + spelled, f"bars {symbology + form:02x} {content.hex()}"
     if name == "raster":
@@ -186,6 +211,12 @@ def respelled(line, stream):
     if name == "qrmodel":
         hold(values in (b"1", b"2"), "a model that isn't in the table:", line)
         return qr_model(values[0])
+    if name == "tabstops":
+        hold(len(values) <= 32 and all(a < b for a, b in zip(b"\0" + values, values)), "tab stops that don't rise:", line)
+        return b"\x1bD" + values + b"\0"
+    if name in WITH_NUMBER_OF_TWO_BYTES:
+        hold(len(values) == 2, "a number that has other than two bytes:", line)
+        return WITH_NUMBER_OF_TWO_BYTES[name] + values
     front, allowed = WITH_BYTE[name] if len(values) == 1 else (WITH_BYTES[name], range(256))
     hold(values[-1] in allowed, "a parameter that isn't in the table:", line)
     return front + values
@@ -266,8 +297,10 @@ def note_of(line):
     place, name, *values = line.split(" ")
     if name != "bars" or place == "note":
         return None
-    content = bytes.fromhex(values[1])
-    right = check_digit(content[:-1]) if len(content) == FULL_LENGTHS.get(int(values[0], 16) % 65) else None
+    symbology, content = int(values[0], 16) % 65, bytes.fromhex(values[1])
+    right = check_digit(content[:-1]) if len(content) == FULL_LENGTHS.get(symbology) else None
+    if symbology == 1 and len(content) in (8, 12):
+        right = check_digit(upca_digits(content[:-1]))
     return None if right is None or content[-1] - 48 == right else f"note {place} check digit {content[-1] - 48}, right {right}"
 
 
@@ -284,16 +317,22 @@ def notes_of(lines, stream):
     return notes
 
 
-def width_of(cells):
-    """Returns how many dots wide the cells of a row are, from what stands after its alignment."""
-    dots, width = 0, 12
-    for style, _ in re.findall(r"\[(.*?)\]|(\\..|.)", cells.removeprefix("upside ")):
-        if style:
-            font, times = style.split(",")[:2]
-            width = (12 if font == "A" else 9) * int(times)
+def reach_of(cells):
+    """Returns how many cells a row has, and how far they reach in dots, from what stands after its alignment."""
+    cells = re.sub(r"^(?:margin \d+ )?(?:width \d+ )?(?:upside )?(?=[@[])", "", cells).removeprefix("upside ")
+    count, end, reach, width = 0, 0, 0, 12
+    for place, style, _ in re.findall(r"@(\d+)|\[(.*?)\]|(\\..|.)", cells):
+        if place:
+            end = int(place)
+        elif style:
+            font, across, down, *fields = style.split(",")
+            spacing, is_turned = (int(fields[6]) if len(fields) > 6 else 0), len(fields) > 8
+            face = (24, 17) if is_turned else (12, 9)
+            width = (face[font == "B"] + spacing) * int(down if is_turned else across)
         else:
-            dots += width
-    return dots
+            count, end = count + 1, end + width
+            reach = max(reach, end)
+    return count, reach
 
 
 # Receipts
@@ -429,8 +468,8 @@ def left_out(spellings):
                 return place
         elif spelling[:2] == b"\x1dk":
             number, content = spelling[2] - 65, spelling[4:].decode("latin-1")
-            if len(content) < FULL_LENGTHS.get(number, 0):
-                content += str(check_digit(spelling[4:]))
+            if len(content) < FULL_LENGTHS.get(number, 0) or number == 1 and len(content) in (6, 7, 11):
+                content += str(check_digit(upca_digits(spelling[4:]) if number == 1 else spelling[4:]))
             if not widths(next(kind for kind, its in KINDS.items() if its == number), content, module):
                 return place
     return None

@@ -70,12 +70,13 @@ def try_stream(pick):
         hold(lines_of("check", end) == (status, lines), "what follows a refused byte matters")
     render_status, items = lines_of("render", stream)
     hold(render_status == status and (not status or items.pop() == lines[-1]), "`render` ends otherwise than `check`")
-    codes = [item.split(" ", 2)[2] for item in items if item.startswith("qr ")]
+    codes = [re.sub(r"^(margin \d+ )?(width \d+ )?", "", item.split(" ", 2)[2]) for item in items if item.startswith("qr ")]
     hold(codes == qr_codes_of(lines[:-1]), "the QR codes aren't those that are stored")
     some_items = paper_of(some)
     hold(items[: len(some_items)] == some_items, "the paper of a front isn't a front of the paper")
     for item in items:
-        hold(not item.startswith("row ") or 0 < width_of(item.split(" ", 2)[2]) <= 512, "a row that is too wide, or has nothing:", item)
+        count, reach = reach_of(item.split(" ", 2)[2]) if item.startswith("row ") else (1, 0)
+        hold(count == 1 or 0 < reach <= 512, "a row that is too wide, or has nothing:", item)
     if status == 0:
         other = b"".join(some_command(pick)[0] for _ in range(5))
         hold(paper_of(stream + b"\x1b@" + other) == items + paper_of(other), "a printer that is initialised isn't as new")

@@ -198,7 +198,7 @@ static void lists_and_prints(void) {
     GIVES(kolatennis_listing, "", "end 0 pending 0\n", KOLATENNIS_STATUS_GOOD);
     GIVES(kolatennis_listing, "\x1B@Hi\n\x1DV\x00", "0 init\n2 char 48\n3 char 69\n4 lf\n5 cut 00\nend 8 pending 0\n", KOLATENNIS_STATUS_GOOD);
     GIVES(kolatennis_listing, "\x1B@Hi\n\x1DV", "0 init\n2 char 48\n3 char 69\n4 lf\nend 7 pending 2\n", KOLATENNIS_STATUS_REFUSED);
-    GIVES(kolatennis_listing, "\x1B@\x1B$", "0 init\nfault 3 2 UnknownCommand\n", KOLATENNIS_STATUS_REFUSED);
+    GIVES(kolatennis_listing, "\x1B@\x1B#", "0 init\nfault 3 2 UnknownCommand\n", KOLATENNIS_STATUS_REFUSED);
     GIVES(paper, "", "", KOLATENNIS_STATUS_GOOD);
     GIVES(paper, "\x1B@Hi\n\x1DV\x00", "row left Hi\nfeed 1\ncut full\n", KOLATENNIS_STATUS_GOOD);
     GIVES(paper, "\x1B" "E\x01" "A\x1B" "E\x00" "B\n", "row left [A,1,1,1,0,0]A[A,1,1,0,0,0]B\nfeed 1\n", KOLATENNIS_STATUS_GOOD);
@@ -507,8 +507,8 @@ static void prints(void) {
     has_paper(&printer, "row left Hi\nfeed 1\ncut full\n");
     answers(&printer, BYTES("\x12"));
     answers(&printer, "", 0);
-    feeds(&printer, BYTES("B\x1B$"), 2, KOLATENNIS_STOP_FAULT, KOLATENNIS_FAULT_UNKNOWN_COMMAND, 2);
-    feeds(&printer, BYTES("$\n"), 2, KOLATENNIS_STOP_ALL, 0, KOLATENNIS_NO_PLACE);
+    feeds(&printer, BYTES("B\x1B#"), 2, KOLATENNIS_STOP_FAULT, KOLATENNIS_FAULT_UNKNOWN_COMMAND, 2);
+    feeds(&printer, BYTES("#\n"), 2, KOLATENNIS_STOP_ALL, 0, KOLATENNIS_NO_PLACE);
     feeds(&printer, BYTES("\x06"), 0, KOLATENNIS_STOP_FAULT, KOLATENNIS_FAULT_UNKNOWN_BYTE, 0);
     feeds(&printer, BYTES("\x1B" "a\x03"), 2, KOLATENNIS_STOP_FAULT, KOLATENNIS_FAULT_BAD_PARAMETER, 2);
     feeds(&printer, BYTES("\x1D" "kD\x01"), 3, KOLATENNIS_STOP_FAULT, KOLATENNIS_FAULT_BAD_BARCODE, 3);

@@ -229,7 +229,7 @@ class Printer(_Held):
     """A printer, with nothing on its paper, whose lines have `width` dots.
 
     >>> with Printer() as printer:
-    ...     printer.feed(b"A\\x1b$"), printer.feed(b"\\n")
+    ...     printer.feed(b"A\\x1b#"), printer.feed(b"\\n")
     ...     printer.paper()
     (Fed(consumed=2, stop='fault', reason='UnknownCommand', at=2), Fed(consumed=1, stop='all', reason=None, at=None))
     'row left A\\nfeed 1\\n'

@@ -85,7 +85,7 @@ def listing(stream: Bytes) -> Text:
     0 char 41
     1 lf
     end 2 pending 0
-    >>> listing(b"\\x1b$")
+    >>> listing(b"\\x1b#")
     Text(text='fault 1 2 UnknownCommand\\n', whole=False)
     """
     return _text(library.kolatennis_listing, as_bytes(stream), 20)

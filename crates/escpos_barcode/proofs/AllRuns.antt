@@ -3,17 +3,20 @@ use Rattle.std.proofs.Common.{◌≡◌, ℕ, ◌*◌, List, [], ◌∷◌, ◌+
 use Rattle.std.specs.Prelude.{◌==◌, ◌&&◌, ◌||◌, nat_le, not, flat_map, replicate, IsTrue, if◌then◌else◌}
 use Rattle.std.specs.List.{list_all}
 use Rattle.std.proofs.lemmas.Bool.{and_parts, and_from, leb-true, agree_below, agree_below_at}
-use Rattle.escpos_command.specs.Barcodes.{is_content}
+use Rattle.escpos_command.specs.Barcodes.{is_content, is_digit}
 use Rattle.escpos_command.specs.declared.bars.Symbology.{Symbology}
-use Rattle.escpos_command.specs.declared.bars.Symbology.TheVariants.{UpcA, Ean13, Ean8, Code39, Itf, Codabar, Code128}
+use Rattle.escpos_command.specs.declared.bars.Symbology.TheVariants.{UpcA, UpcE, Ean13, Ean8, Code39, Itf, Codabar, Code93, Code128, Gs1Code128}
+use Rattle.escpos_barcode.specs.Chains.{given}
+use Rattle.escpos_barcode.specs.Code93.{is_code93_content, code93_values, with_both}
 use Rattle.escpos_barcode.specs.Code128.{code128_values, check_value}
+use Rattle.escpos_barcode.specs.Gs1.{gs1_values}
 use Rattle.escpos_barcode.specs.Drawn.{has_two_widths, wide, element_dots, is_module, is_run, drawn}
-use Rattle.escpos_barcode.specs.Elements.{guard, centre, in_sets, halves, are_digits, spaced, upper, is_code39_content, code39_elements, pairs, itf_start, itf_stop, is_itf_content, code128_elements, elements}
+use Rattle.escpos_barcode.specs.Elements.{guard, centre, in_sets, halves, are_digits, spaced, upper, is_code39_content, code39_elements, pairs, itf_start, itf_stop, is_itf_content, upce_parts, upce_end, upce_elements, code93_elements, code128_elements, elements}
 use Rattle.escpos_barcode.specs.Pen.{is_element}
-use Rattle.escpos_barcode.specs.Tables.{row, set_a, set_b, left_digits, right_digits, parities, code39_data, code39_star, code39_table, itf_rows, itf_digits, codabar_table, code128_rows, code128_table}
+use Rattle.escpos_barcode.specs.Tables.{row, set_a, set_b, left_digits, right_digits, parities, upce_parities, code39_data, code39_star, code39_table, itf_rows, itf_digits, codabar_table, code93_rows, code93_table, code128_rows, code128_table}
 use Rattle.escpos_barcode.proofs.DrawnOf.{drawn_of}
 use Rattle.escpos_barcode.proofs.AllElements.{rows_all, spaced_all, pairs_all}
-use Rattle.escpos_barcode.proofs.Lookups.{some_if, given_some, all_append}
+use Rattle.escpos_barcode.proofs.Lookups.{some_if, if_there, given_some, all_append}
 use Rattle.escpos_barcode.proofs.ReadSpaced.{implied}
 
 -- ## The elements of the tables
@@ -38,6 +41,10 @@ codabar_elements : list_all (λ r. list_all is_element r.1) codabar_table ≡ tr
 unfolding codabar_table
 codabar_elements = refl
 
+code93_values_elements : list_all (λ r. list_all is_element r.1) code93_table ≡ true
+unfolding code93_rows code93_table
+code93_values_elements = refl
+
 value_elements : list_all (λ r. list_all is_element r.1) code128_table ≡ true
 unfolding code128_rows code128_table
 value_elements = refl
@@ -51,9 +58,20 @@ halves_elements sets digits =
     all_append is_element left (centre ++ (right ++ guard)) (rows_all is_element refl left_digits (in_sets sets (take (length sets) digits)) left_elements)
     (all_append is_element right guard (rows_all is_element refl right_digits (drop (length sets) digits) right_elements) refl)
 
+drawn_values : (values : List ℕ) → list_all is_element (code128_elements values) ≡ true
+drawn_values values =
+    let all : List ℕ = values ++ check_value values ∷ 106 ∷ [] in
+    all_append is_element (flat_map (row code128_table) all) (2 ∷ []) (rows_all is_element refl code128_table all value_elements) refl
+
 all_elements : (symbology : Symbology) (content es : List ℕ) → elements symbology content ≡ Some es → list_all is_element es ≡ true
 all_elements UpcA content es e =
     let found = some_if (are_digits 12 content) (halves (replicate 6 0) content) es e in ap (list_all is_element) (sym found.1) ∙ halves_elements (replicate 6 0) content
+all_elements UpcE content es e =
+    let all = if_there (list_all is_digit content) (given (upce_parts content) (λ p. Some (upce_elements p.0 p.1))) es e in
+    let found = given_some (upce_parts content) (λ p. Some (upce_elements p.0 p.1)) es all.1 in
+    let drawn : upce_elements found.0.0 found.0.1 ≡ es = cc in
+    let symbols : List ℕ = in_sets (row upce_parities found.0.1) found.0.0 in
+    ap (list_all is_element) (sym drawn) ∙ all_append is_element (flat_map (row left_digits) symbols) upce_end (rows_all is_element refl left_digits symbols left_elements) refl
 all_elements Ean8 content es e =
     let found = some_if (are_digits 8 content) (halves (replicate 4 0) content) es e in ap (list_all is_element) (sym found.1) ∙ halves_elements (replicate 4 0) content
 all_elements Ean13 [] es e = absurd cc
@@ -69,11 +87,18 @@ all_elements Codabar content es e =
 all_elements Itf content es e =
     let found = some_if (is_itf_content content) (itf_start ++ (pairs content ++ itf_stop)) es e in
     ap (list_all is_element) (sym found.1) ∙ all_append is_element (pairs content) itf_stop (pairs_all is_element refl content itf_elements) refl
+all_elements Code93 content es e =
+    let found = some_if (is_code93_content content) (code93_elements (code93_values content)) es e in
+    let all : List ℕ = 47 ∷ with_both (code93_values content) ++ 47 ∷ [] in
+    ap (list_all is_element) (sym found.1) ∙ all_append is_element (flat_map (row code93_table) all) (1 ∷ []) (rows_all is_element refl code93_table all code93_values_elements) refl
 all_elements Code128 content es e =
     let found = given_some (code128_values content) (λ values. Some (code128_elements values)) es e in
     let drawn : code128_elements found.0 ≡ es = cc in
-    let all : List ℕ = found.0 ++ check_value found.0 ∷ 106 ∷ [] in
-    ap (list_all is_element) (sym drawn) ∙ all_append is_element (flat_map (row code128_table) all) (2 ∷ []) (rows_all is_element refl code128_table all value_elements) refl
+    ap (list_all is_element) (sym drawn) ∙ drawn_values found.0
+all_elements Gs1Code128 content es e =
+    let found = given_some (gs1_values content) (λ values. Some (code128_elements values)) es e in
+    let drawn : code128_elements found.0 ≡ es = cc in
+    ap (list_all is_element) (sym drawn) ∙ drawn_values found.0
 
 -- ## In dots, computed over all module widths and elements
 

@@ -3,11 +3,14 @@ pub mod Drawing
 pub mod Rows
 pub mod Parts
 pub mod Reading128
+pub mod ReadingGs1
 pub mod Lookups
 pub mod ReadUpc
 pub mod ReadSpaced
 pub mod ReadItf
+pub mod ReadCode93
 pub mod ReadCode128
+pub mod ReadGs1
 pub mod Units
 pub mod ReadBack
 pub mod Printable
@@ -16,3 +19,4 @@ pub mod AllElements
 pub mod AllRuns
 pub mod DrawnOf
 pub mod Unrefused
+pub mod GivenGs1

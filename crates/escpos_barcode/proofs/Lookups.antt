@@ -1,5 +1,5 @@
 -- What is looked up in a table by its symbol is looked up by its pattern.
-use Rattle.std.proofs.Common.{◌≡◌, ℕ, suc, ◌+◌, ◌*◌, ◌<◌, ◌≤◌, inl, inr, List, [], ◌∷◌, ◌++◌, length, map, take, drop, refl, sym, ap, ◌∙◌, arith, true, false, Bool, Option, Some, None, append_assoc}
+use Rattle.std.proofs.Common.{◌≡◌, ℕ, suc, ◌+◌, ◌*◌, ◌<◌, ◌≤◌, ◌⊎◌, inl, inr, List, [], ◌∷◌, ◌++◌, length, map, take, drop, refl, sym, ap, ◌∙◌, arith, true, false, Bool, Option, Some, None, append_assoc}
 use Rattle.std.specs.Prelude.{◌==◌, ◌||◌, ◌/◌, flat_map, if◌then◌else◌}
 use Rattle.std.specs.List.{list_all}
 use Rattle.std.proofs.lemmas.Bool.Decides.{eqb_tells}
@@ -28,13 +28,18 @@ pub given_some : {A B : Type 0} (o : Option A) (f : A → Option B) (y : B) → 
 given_some None f y e = absurd cc
 given_some (Some x) f y e = (x, refl, e)
 
+pub if_some : {A : Type 0} (t : Bool) (x y : A) (rest : Option A) → (if t then Some x else rest) ≡ Some y →
+    ((t ≡ true) × (x ≡ y)) ⊎ ((t ≡ false) × (rest ≡ Some y))
+if_some true x y rest e = inl (refl, cc)
+if_some false x y rest e = inr (refl, e)
+
 pub joined_some : {A : Type 0} (xs ys : List A) (o : Option (List A)) → joined xs o ≡ Some ys → (zs : List A) × (o ≡ Some zs) × (xs ++ zs ≡ ys)
 joined_some xs ys None e = absurd cc
 joined_some xs ys (Some zs) e = (zs, refl, cc)
 
 -- ## Tables
 
-abbrev finds : Option ℕ → ℕ → Bool
+abbrev pub finds : Option ℕ → ℕ → Bool
 finds None s = false
 finds (Some x) s = x == s
 
@@ -42,7 +47,7 @@ finds (Some x) s = x == s
 abbrev pub is_readable : List (ℕ × List ℕ) → List (ℕ × List ℕ) → Bool
 is_readable whole table = list_all (λ r. finds (symbol_of whole r.1) r.0) table
 
-found : (o : Option ℕ) (s : ℕ) → finds o s ≡ true → o ≡ Some s
+pub found : (o : Option ℕ) (s : ℕ) → finds o s ≡ true → o ≡ Some s
 found None s h = absurd cc
 found (Some x) s h = ap (λ y. Some y) (eqb-true x s h)
 

@@ -2,9 +2,9 @@
 use Rattle.std.proofs.Common.{◌≡◌, ℕ, ◌+◌, ◌-◌, ◌*◌, ◌<◌, List, [], ◌∷◌, ◌++◌, length, get_or, drop, map, refl, sym, ap, ◌∙◌, arith, append-nil, add-one, drop-cons}
 use Rattle.std.specs.Prelude.{flat_map}
 use Rattle.std.proofs.lemmas.Grind.{flat_map-append}
-use Rattle.escpos_barcode.specs.Elements.{in_sets, interleaved, pairs, spaced, upper, code39_elements, code128_elements}
+use Rattle.escpos_barcode.specs.Elements.{in_sets, interleaved, pairs, spaced, upper, code39_elements, code93_bars, code128_elements}
 use Rattle.escpos_barcode.specs.Code128.{check_value}
-use Rattle.escpos_barcode.specs.Tables.{row, left_digits, itf_digits, code39_table, codabar_table, code128_table}
+use Rattle.escpos_barcode.specs.Tables.{row, left_digits, itf_digits, code39_table, codabar_table, code93_table, code128_table}
 use Rattle.escpos_barcode.specs.Pen.{Drawing, draw}
 use Rattle.escpos_barcode.proofs.Drawing.{draw_then}
 
@@ -50,6 +50,16 @@ codabar_drawn pen start last first more content e p q =
     draw_then pen start last (row codabar_table (upper first)) (flat_map (λ t. 1 ∷ row codabar_table t) (map upper more)) p
     (q ∙ ap (draw start) (sym (flat_map_map (λ t. 1 ∷ row codabar_table t) upper more)))
     ∙ ap (λ xs. draw pen (spaced codabar_table (map upper xs))) (sym e)
+
+-- CODE93 is its start, its values, and its stop with the last bar.
+pub code93_drawn : (pen start all stop last : Drawing) (values : List ℕ) → start ≡ draw pen (row code93_table 47) → all ≡ draw start (flat_map (row code93_table) values) →
+    stop ≡ draw all (row code93_table 47) → last ≡ draw stop (1 ∷ []) → last ≡ draw pen (code93_bars values)
+code93_drawn pen start all stop last values p q r s =
+    let end : flat_map (row code93_table) (values ++ 47 ∷ []) ≡ flat_map (row code93_table) values ++ row code93_table 47
+    = flat_map-append (row code93_table) values (47 ∷ []) ∙ ap (λ e. flat_map (row code93_table) values ++ e) (append-nil (row code93_table 47)) in
+    draw_then pen stop last (flat_map (row code93_table) (47 ∷ values ++ 47 ∷ [])) (1 ∷ [])
+    (draw_then pen start stop (row code93_table 47) (flat_map (row code93_table) (values ++ 47 ∷ [])) p
+    (draw_then start all stop (flat_map (row code93_table) values) (row code93_table 47) q r ∙ ap (draw start) (sym end))) s
 
 -- CODE128 is its values, the check character and the stop character with its last bar.
 pub code128_drawn : (pen all check stop last : Drawing) (values : List ℕ) → all ≡ draw pen (flat_map (row code128_table) values) →

@@ -1,5 +1,5 @@
 -- CODE128 is read back.
-use Rattle.std.proofs.Common.{◌≡◌, ℕ, ◌+◌, ◌-◌, ◌<◌, ◌⊎◌, inl, inr, List, [], ◌∷◌, ◌++◌, length, refl, sym, ap, ◌∙◌, arith, true, false, Bool, Option, Some, None, append_assoc, subst}
+use Rattle.std.proofs.Common.{◌≡◌, ℕ, ◌+◌, ◌-◌, ◌<◌, inl, inr, List, [], ◌∷◌, ◌++◌, length, refl, sym, ap, ◌∙◌, arith, true, false, Bool, Option, Some, None, append_assoc, subst}
 use Rattle.std.specs.Prelude.{◌==◌, ◌&&◌, nat_le, nat_lt, flat_map, if◌then◌else◌}
 use Rattle.std.specs.List.{list_all, list_any}
 use Rattle.std.proofs.lemmas.Bool.{and_parts, and_from, eqb-true, eq-eqb, lt-ltb, le-ltb, ltb-true, ltb-false, leb-true}
@@ -11,9 +11,9 @@ use Rattle.escpos_barcode.specs.declared.code128.Character.TheVariants.{Byte, Fu
 use Rattle.escpos_barcode.specs.Chains.{given, joined}
 use Rattle.escpos_barcode.specs.Code128.{escaped, characters_after, characters, is_byte, is_shift, set_after, shifted, byte_value, code_value, value_in, value_shifted, values_after, start_value, started, code128_values, check_value}
 use Rattle.escpos_barcode.specs.Elements.{code128_elements, code128}
-use Rattle.escpos_barcode.specs.Reader.{symbols, last_off, read_start, read_control, read_value, read_values, spelled, read_content, read_checked, read_code128}
+use Rattle.escpos_barcode.specs.Reader.{symbols, last_off, read_start, read_control, read_value, read_values, spelled, all_spelled, read_content, read_checked, read_128}
 use Rattle.escpos_barcode.specs.Tables.{row, has_row, code128_rows, code128_table}
-use Rattle.escpos_barcode.proofs.Lookups.{some_if, given_some, joined_some, if_there, is_readable, symbols_of_rows, row_has, has_numbered, all_by, all_append, rows_to_end}
+use Rattle.escpos_barcode.proofs.Lookups.{some_if, if_some, given_some, joined_some, if_there, is_readable, symbols_of_rows, row_has, has_numbered, all_by, all_append, rows_to_end}
 use Rattle.escpos_barcode.proofs.ReadSpaced.{last_of}
 
 code128_readable : is_readable code128_table code128_table ≡ true
@@ -31,11 +31,6 @@ code128_has v h = has_numbered code128_rows 0 v (omega arith) (omega arith)
 -- ## The content and its characters
 
 -- What a brace and the byte after it say is spelled by them.
-if_some : {A : Type 0} (t : Bool) (x y : A) (rest : Option A) → (if t then Some x else rest) ≡ Some y →
-    ((t ≡ true) × (x ≡ y)) ⊎ ((t ≡ false) × (rest ≡ Some y))
-if_some true x y rest e = inl (refl, cc)
-if_some false x y rest e = inr (refl, e)
-
 one_escape : (b n : ℕ) (x c : Character) → ((b == n) ≡ true) × (x ≡ c) → spelled x ≡ 0x7B ∷ n ∷ [] → spelled c ≡ 0x7B ∷ b ∷ []
 one_escape b n x c h e = ap spelled (sym h.1) ∙ e ∙ ap (λ m. 0x7B ∷ m ∷ []) (sym (eqb-true b n h.0))
 
@@ -240,37 +235,42 @@ check_small (start ∷ vs) = omega arith
 
 -- ## The whole
 
-checked_read : (all : List ℕ) → read_checked (all ++ check_value all ∷ 106 ∷ []) ≡ read_content all
-checked_read all =
-    ap read_checked (sym (append_assoc all (check_value all ∷ []) (106 ∷ [])))
+checked_read : (say : List Character → Option (List ℕ)) (all : List ℕ) → read_checked say (all ++ check_value all ∷ 106 ∷ []) ≡ read_content say all
+checked_read say all =
+    ap (read_checked say) (sym (append_assoc all (check_value all ∷ []) (106 ∷ [])))
     ∙ ap (λ o. given o (λ stop. if stop.1 == 106
-    then given (last_off stop.0) (λ check. if check.1 == check_value check.0 then read_content check.0 else None) else None)) (last_of (all ++ check_value all ∷ []) 106)
-    ∙ ap (λ o. given o (λ check. if check.1 == check_value check.0 then read_content check.0 else None)) (last_of all (check_value all))
-    ∙ ap (λ (t : Bool). if t then read_content all else None) (eq-eqb (check_value all) (check_value all) refl)
+    then given (last_off stop.0) (λ check. if check.1 == check_value check.0 then read_content say check.0 else None) else None)) (last_of (all ++ check_value all ∷ []) 106)
+    ∙ ap (λ o. given o (λ check. if check.1 == check_value check.0 then read_content say check.0 else None)) (last_of all (check_value all))
+    ∙ ap (λ (t : Bool). if t then read_content say all else None) (eq-eqb (check_value all) (check_value all) refl)
 
-elements_read : (all : List ℕ) → list_all (has_row code128_table) all ≡ true → read_code128 (code128_elements all) ≡ read_content all
-elements_read all h =
+elements_read : (say : List Character → Option (List ℕ)) (all : List ℕ) → list_all (has_row code128_table) all ≡ true → read_128 say (code128_elements all) ≡ read_content say all
+elements_read say all h =
     let ends = and_from (has_row code128_table (check_value all)) (list_all (has_row code128_table) (106 ∷ [])) (code128_has (check_value all) (check_small all))
     (and_from (has_row code128_table 106) true (code128_has 106 (omega arith)) refl) in
     let have = all_append (has_row code128_table) all (check_value all ∷ 106 ∷ []) h ends in
     let six = all_by (has_row code128_table) (λ v. length (row code128_table v) == 6) (all ++ check_value all ∷ 106 ∷ []) (λ v. row_has (λ r. length r == 6) code128_table v code128_six) have in
-    ap (λ o. given o (λ rows. given (symbols code128_table rows) read_checked)) (rows_to_end (row code128_table) 6 (all ++ check_value all ∷ 106 ∷ []) (2 ∷ []) (omega arith) six)
-    ∙ ap (λ o. given o read_checked) (symbols_of_rows code128_table code128_table (all ++ check_value all ∷ 106 ∷ []) code128_readable have)
-    ∙ checked_read all
+    ap (λ o. given o (λ rows. given (symbols code128_table rows) (read_checked say))) (rows_to_end (row code128_table) 6 (all ++ check_value all ∷ 106 ∷ []) (2 ∷ []) (omega arith) six)
+    ∙ ap (λ o. given o (read_checked say)) (symbols_of_rows code128_table code128_table (all ++ check_value all ∷ 106 ∷ []) code128_readable have)
+    ∙ checked_read say all
 
-pub code128_read : (content es : List ℕ) → code128 content ≡ Some es → read_code128 es ≡ Some content
+-- The characters that are drawn are read.
+pub started_said : (say : List Character → Option (List ℕ)) (said : List Character) (values : List ℕ) → started said ≡ Some values → read_128 say (code128_elements values) ≡ say said
+started_said say said values e =
+    let begun = started_read said values e in
+    let found = values_read begun.set false begun.more begun.values begun.rest in
+    let start = start_read begun.set in
+    let few = all_by (λ v. nat_lt v 103) (has_row code128_table) begun.values (λ v h. let small = ltb-true v 103 h in code128_has v (omega arith)) found.small in
+    let have = and_from (has_row code128_table (start_value begun.set)) (list_all (has_row code128_table) begun.values) (code128_has (start_value begun.set) start.1) few in
+    ap (λ all. read_128 say (code128_elements all)) (sym begun.all_are)
+    ∙ elements_read say (start_value begun.set ∷ begun.values) have
+    ∙ ap (λ o. given o (λ set. given (read_values set false begun.values) (λ cs. say (Code set ∷ cs)))) start.0
+    ∙ ap (λ o. given o (λ cs. say (Code begun.set ∷ cs))) found.back
+    ∙ ap say (sym begun.cs_are)
+
+pub code128_read : (content es : List ℕ) → code128 content ≡ Some es → read_128 all_spelled es ≡ Some content
 code128_read content es e =
     let spelling = given_some (code128_values content) (λ values. Some (code128_elements values)) es e in
     let said = given_some (characters content) started spelling.0 spelling.1 in
-    let begun = started_read said.0 spelling.0 said.2 in
-    let values = values_read begun.set false begun.more begun.values begun.rest in
-    let start = start_read begun.set in
-    let few = all_by (λ v. nat_lt v 103) (has_row code128_table) begun.values (λ v h. let small = ltb-true v 103 h in code128_has v (omega arith)) values.small in
-    let have = and_from (has_row code128_table (start_value begun.set)) (list_all (has_row code128_table) begun.values) (code128_has (start_value begun.set) start.1) few in
     let drawn : code128_elements spelling.0 ≡ es = cc in
-    ap read_code128 (sym drawn) ∙ ap (λ all. read_code128 (code128_elements all)) (sym begun.all_are)
-    ∙ elements_read (start_value begun.set ∷ begun.values) have
-    ∙ ap (λ o. given o (λ set. given (read_values set false begun.values) (λ cs. Some (flat_map spelled (Code set ∷ cs))))) start.0
-    ∙ ap (λ o. given o (λ cs. Some (flat_map spelled (Code begun.set ∷ cs)))) values.back
-    ∙ ap (λ cs. Some (flat_map spelled cs)) (sym begun.cs_are)
+    ap (read_128 all_spelled) (sym drawn) ∙ started_said all_spelled said.0 spelling.0 said.2
     ∙ ap (λ bs. Some bs) (characters_spelled false content said.0 said.1)

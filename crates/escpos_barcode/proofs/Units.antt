@@ -1,22 +1,25 @@
 -- Widths in dots are read back as elements.
-use Rattle.std.proofs.Common.{◌≡◌, ℕ, ◌*◌, ◌<◌, inl, inr, List, [], ◌∷◌, ◌++◌, length, map, refl, sym, ap, ◌∙◌, arith, true, false, Bool, Option, Some, None, add-zero}
+use Rattle.std.proofs.Common.{◌≡◌, ℕ, ◌*◌, ◌<◌, inl, inr, List, [], ◌∷◌, ◌++◌, length, map, refl, sym, ap, ◌∙◌, arith, true, false, Bool, Option, Some, None, add-zero, subst}
 use Rattle.std.specs.Prelude.{◌==◌, ◌||◌, ◌/◌, ◌%◌, nat_le, nat_lt, not, flat_map, slice_index, replicate, if◌then◌else◌}
 use Rattle.std.specs.List.{list_all}
 use Rattle.std.proofs.lemmas.Bool.{and_parts, eqb-true, eq-eqb, leb-true, lt-ltb, le-ltb, agree_below, agree_below_at}
 use Rattle.std.proofs.lemmas.Bool.Decides.{eqb_tells}
 use Rattle.std.proofs.lemmas.Nat.{div-mul-add, mod-mul-add}
-use Rattle.escpos_command.specs.Barcodes.{is_codabar_end, is_content, has_length, allows, all_from}
+use Rattle.escpos_command.specs.Barcodes.{is_digit, is_codabar_end, is_content, has_length, allows, all_from}
 use Rattle.escpos_command.specs.declared.bars.Symbology.{Symbology}
-use Rattle.escpos_command.specs.declared.bars.Symbology.TheVariants.{UpcA, Ean13, Ean8, Code39, Itf, Codabar, Code128}
+use Rattle.escpos_command.specs.declared.bars.Symbology.TheVariants.{UpcA, UpcE, Ean13, Ean8, Code39, Itf, Codabar, Code93, Code128, Gs1Code128}
 use Rattle.escpos_barcode.specs.declared.code128.CodeSet.{CodeSet}
 use Rattle.escpos_barcode.specs.declared.code128.CodeSet.TheVariants.{A, B, C}
-use Rattle.escpos_barcode.specs.Chains.{joined}
+use Rattle.escpos_barcode.specs.Chains.{given, joined}
+use Rattle.escpos_barcode.specs.declared.code128.Character.{Character}
+use Rattle.escpos_barcode.specs.Code93.{is_code93_content, code93_values, with_both}
 use Rattle.escpos_barcode.specs.Code128.{characters, started, start_value, code128_values, check_value}
+use Rattle.escpos_barcode.specs.Gs1.{gs1_parts, said, gs1_characters, gs1_values}
 use Rattle.escpos_barcode.specs.Drawn.{wide, element_dots, is_module}
-use Rattle.escpos_barcode.specs.Elements.{spaced, pairs, itf_start, itf_stop, is_itf_content, is_code39_content, code39_elements, code128_elements, upper, are_digits, halves, upca, ean8, ean13, code39, itf, codabar, code128, elements}
+use Rattle.escpos_barcode.specs.Elements.{spaced, pairs, itf_start, itf_stop, is_itf_content, is_code39_content, code39_elements, code128_elements, upper, are_digits, halves, upca, ean8, ean13, code39, itf, codabar, upce_parts, upce_elements, upce, code93_elements, code93, code128, gs1_128, elements}
 use Rattle.escpos_barcode.specs.Reader.{in_modules, whole_modules, narrow_or_wide, units}
-use Rattle.escpos_barcode.specs.Tables.{row, parities, code39_data, code39_star, code39_table, itf_rows, itf_digits, codabar_table, code128_rows, code128_table}
-use Rattle.escpos_barcode.proofs.Lookups.{some_if, given_some, all_append}
+use Rattle.escpos_barcode.specs.Tables.{row, parities, code39_data, code39_star, code39_table, itf_rows, itf_digits, codabar_table, code93_rows, code93_table, code128_rows, code128_table}
+use Rattle.escpos_barcode.proofs.Lookups.{some_if, if_there, given_some, all_append}
 use Rattle.escpos_barcode.proofs.AllElements.{spaced_all, pairs_all}
 use Rattle.escpos_barcode.proofs.ReadSpaced.{end_small, implied}
 use Rattle.escpos_barcode.proofs.ReadCode128.{started_read}
@@ -122,6 +125,10 @@ unfolding end_narrow
 codabar_starts b h =
     implied (is_codabar_end b) (starts 1 (row codabar_table (upper b))) h (agree_below_at end_narrow (λ c. true) 128 b ends_narrow (end_small b h))
 
+code93_starts : starts 1 (row code93_table 47) ≡ true
+unfolding code93_rows code93_table
+code93_starts = refl
+
 code128_starts : (set : CodeSet) → starts 2 (row code128_table (start_value set)) ≡ true
 unfolding code128_rows code128_table
 code128_starts A = refl
@@ -180,27 +187,60 @@ itf_units m content es h e =
     ∙ two_width_units m m (itf_start ++ (pairs content ++ itf_stop)) h (all_append is_width (pairs content) itf_stop (pairs_all is_width refl content itf_widths) refl) refl
     ∙ ap (λ xs. Some xs) found.1
 
-code128_units : (m : ℕ) (content es : List ℕ) → is_module m ≡ true → code128 content ≡ Some es → units Code128 (map (element_dots Code128 m) es) ≡ Some es
-code128_units m content es h e =
-    let spelling = given_some (code128_values content) (λ values. Some (code128_elements values)) es e in
-    let said = given_some (characters content) started spelling.0 spelling.1 in
-    let begun = started_read said.0 spelling.0 said.2 in
-    let drawn : code128_elements spelling.0 ≡ es = cc in
+upce_units : (m : ℕ) (content es : List ℕ) → is_module m ≡ true → upce content ≡ Some es → units UpcE (map (element_dots UpcE m) es) ≡ Some es
+upce_units m content es h e =
+    let all = if_there (list_all is_digit content) (given (upce_parts content) (λ p. Some (upce_elements p.0 p.1))) es e in
+    let found = given_some (upce_parts content) (λ p. Some (upce_elements p.0 p.1)) es all.1 in
+    let drawn : upce_elements found.0.0 found.0.1 ≡ es = cc in
+    ap (λ xs. units UpcE (map (element_dots UpcE m) xs)) (sym drawn)
+    ∙ modular_units (1 * m) m (upce_elements found.0.0 found.0.1) (positive m h) (omega arith) ∙ ap (λ xs. Some xs) drawn
+
+code93_units : (m : ℕ) (content es : List ℕ) → is_module m ≡ true → code93 content ≡ Some es → units Code93 (map (element_dots Code93 m) es) ≡ Some es
+code93_units m content es h e =
+    let found = some_if (is_code93_content content) (code93_elements (code93_values content)) es e in
+    let all : List ℕ = code93_elements (code93_values content) in
+    let rest : List ℕ = flat_map (row code93_table) (with_both (code93_values content) ++ 47 ∷ []) in
+    let first = first_of (λ k. k * m) 1 all (starts_append 1 (row code93_table 47 ++ rest) (1 ∷ []) (starts_append 1 (row code93_table 47) rest code93_starts)) in
+    let one : slice_index (map (λ k. k * m) all) 0 ≡ m = omega arith in
+    ap (λ xs. units Code93 (map (element_dots Code93 m) xs)) (sym found.1)
+    ∙ modular_units (slice_index (map (λ k. k * m) all) 0) m all (positive m h) one ∙ ap (λ xs. Some xs) found.1
+
+-- The first bar of CODE128 is two modules wide.
+started_units : (m : ℕ) (said : List Character) (values : List ℕ) → is_module m ≡ true → started said ≡ Some values →
+    whole_modules (slice_index (map (λ k. k * m) (code128_elements values)) 0 / 2) (map (λ k. k * m) (code128_elements values)) ≡ Some (code128_elements values)
+started_units m said values h e =
+    let begun = started_read said values e in
     let all : List ℕ = start_value begun.set ∷ begun.values in
-    let are : code128_elements all ≡ es = ap code128_elements begun.all_are ∙ drawn in
     let pattern : List ℕ = row code128_table (start_value begun.set) in
     let rest : List ℕ = flat_map (row code128_table) (begun.values ++ check_value all ∷ 106 ∷ []) in
     let first = first_of (λ k. k * m) 2 (code128_elements all) (starts_append 2 (pattern ++ rest) (2 ∷ []) (starts_append 2 pattern rest (code128_starts begun.set))) in
     let half : slice_index (map (λ k. k * m) (code128_elements all)) 0 / 2 ≡ m = omega arith in
-    ap (λ xs. units Code128 (map (element_dots Code128 m) xs)) (sym are)
-    ∙ modular_units (slice_index (map (λ k. k * m) (code128_elements all)) 0 / 2) m (code128_elements all) (positive m h) half ∙ ap (λ xs. Some xs) are
+    subst (λ vs. whole_modules (slice_index (map (λ k. k * m) (code128_elements vs)) 0 / 2) (map (λ k. k * m) (code128_elements vs)) ≡ Some (code128_elements vs)) begun.all_are
+    (modular_units (slice_index (map (λ k. k * m) (code128_elements all)) 0 / 2) m (code128_elements all) (positive m h) half)
+
+code128_units : (m : ℕ) (content es : List ℕ) → is_module m ≡ true → code128 content ≡ Some es → units Code128 (map (element_dots Code128 m) es) ≡ Some es
+code128_units m content es h e =
+    let spelling = given_some (code128_values content) (λ values. Some (code128_elements values)) es e in
+    let said = given_some (characters content) started spelling.0 spelling.1 in
+    let drawn : code128_elements spelling.0 ≡ es = cc in
+    ap (λ xs. units Code128 (map (element_dots Code128 m) xs)) (sym drawn) ∙ started_units m said.0 spelling.0 h said.2 ∙ ap (λ xs. Some xs) drawn
+
+gs1_units : (m : ℕ) (content es : List ℕ) → is_module m ≡ true → gs1_128 content ≡ Some es → units Gs1Code128 (map (element_dots Gs1Code128 m) es) ≡ Some es
+gs1_units m content es h e =
+    let spelling = given_some (gs1_values content) (λ values. Some (code128_elements values)) es e in
+    let parts = given_some (gs1_parts content) (λ found. started (gs1_characters (said found))) spelling.0 spelling.1 in
+    let drawn : code128_elements spelling.0 ≡ es = cc in
+    ap (λ xs. units Gs1Code128 (map (element_dots Gs1Code128 m) xs)) (sym drawn) ∙ started_units m (gs1_characters (said parts.0)) spelling.0 h parts.2 ∙ ap (λ xs. Some xs) drawn
 
 pub elements_units : (symbology : Symbology) (m : ℕ) (content es : List ℕ) → is_module m ≡ true → elements symbology content ≡ Some es →
     units symbology (map (element_dots symbology m) es) ≡ Some es
 elements_units UpcA m content es h e = upca_units m content es h e
+elements_units UpcE m content es h e = upce_units m content es h e
 elements_units Ean13 m content es h e = ean13_units m content es h e
 elements_units Ean8 m content es h e = ean8_units m content es h e
 elements_units Code39 m content es h e = code39_units m content es h e
 elements_units Itf m content es h e = itf_units m content es h e
 elements_units Codabar m content es h e = codabar_units m content es h e
+elements_units Code93 m content es h e = code93_units m content es h e
 elements_units Code128 m content es h e = code128_units m content es h e
+elements_units Gs1Code128 m content es h e = gs1_units m content es h e

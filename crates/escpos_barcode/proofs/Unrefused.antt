@@ -1,17 +1,20 @@
 -- What isn't refused.
-use Rattle.std.proofs.Common.{◌≡◌, ℕ, ◌+◌, ◌<◌, ◌≤◌, inl, inr, List, [], ◌∷◌, length, map, refl, sym, ap, ◌∙◌, arith, true, false, Bool, Some, None}
-use Rattle.std.specs.Prelude.{◌==◌, ◌&&◌, ◌||◌, ◌%◌, nat_le, not, is_some, sum, IsTrue, if◌then◌else◌}
-use Rattle.std.specs.List.{list_all}
+use Rattle.std.proofs.Common.{◌≡◌, ℕ, ◌+◌, ◌<◌, ◌≤◌, inl, inr, List, [], ◌∷◌, length, map, refl, sym, ap, ◌∙◌, arith, true, false, Bool, Option, Some, None, subst}
+use Rattle.std.specs.Prelude.{◌==◌, ◌&&◌, ◌||◌, ◌%◌, nat_le, nat_lt, nat_eq, not, is_some, sum, take, slice_index, IsTrue, if◌then◌else◌}
+use Rattle.std.specs.Cmp.Lexicographic.{pointwise}
+use Rattle.std.specs.List.{list_all, list_any}
 use Rattle.std.proofs.lemmas.Bool.{and_parts, and_from, or_cases, eq-eqb, eqb-true, le-leb, leb-true, agree_below, agree_below_at}
-use Rattle.escpos_command.specs.Barcodes.{is_content, is_digit, is_code39, has_length, allows, all_from}
+use Rattle.escpos_command.specs.Barcodes.{is_content, is_digit, is_upce_first, is_code39, has_length, allows, all_from}
 use Rattle.escpos_command.specs.declared.bars.Symbology.{Symbology}
-use Rattle.escpos_command.specs.declared.bars.Symbology.TheVariants.{UpcA, Ean13, Ean8, Code39, Itf, Codabar}
+use Rattle.escpos_command.specs.declared.bars.Symbology.TheVariants.{UpcA, UpcE, Ean13, Ean8, Code39, Itf, Codabar, Code93}
 use Rattle.escpos_barcode.specs.Chains.{given}
 use Rattle.escpos_barcode.specs.Drawn.{is_module, element_dots, fitting, drawn}
 use Rattle.escpos_barcode.specs.Tables.{has_row, code39_data}
 use Rattle.escpos_barcode.proofs.ReadSpaced.{implied}
 use Rattle.escpos_barcode.proofs.Rows.{digit_range}
-use Rattle.escpos_barcode.specs.Elements.{are_digits, is_itf_content, is_code39_content, elements}
+use Rattle.escpos_paper.specs.CheckDigit.{expanded}
+use Rattle.escpos_barcode.specs.Code93.{is_code93_content}
+use Rattle.escpos_barcode.specs.Elements.{are_digits, is_itf_content, is_code39_content, shorter, first_for, upce_parts, upce_elements, elements}
 
 pub fits_drawn : (line_dots : ℕ) (symbology : Symbology) (module_width : ℕ) (content es : List ℕ) → 2 ≤ module_width → module_width ≤ 6 →
     elements symbology content ≡ Some es → sum (map (element_dots symbology module_width) es) ≤ line_dots →
@@ -66,6 +69,155 @@ itf_there content h =
 
 pub codabar_there : (content : List ℕ) → IsTrue (is_content Codabar content) → IsTrue (is_some (elements Codabar content))
 codabar_there content h = some_there (is_content Codabar content) _ h
+
+-- ## UPC-E
+
+by_first : (first : Bool) (n b : ℕ) → (if first then is_upce_first n b else is_digit b) ≡ true → is_digit b ≡ true
+by_first true n b h = first_digit (n == 6) b h
+  where
+    first_digit : (six : Bool) (b : ℕ) → (if six then is_digit b else b == 0x30) ≡ true → is_digit b ≡ true
+    first_digit true b h = h
+    first_digit false b h = ap is_digit (eqb-true b 0x30 h)
+by_first false n b h = h
+
+upce_digits : (n place : ℕ) (bs : List ℕ) → all_from place (allows UpcE n) bs ≡ true → list_all is_digit bs ≡ true
+upce_digits n place [] h = refl
+upce_digits n place (b ∷ bs) h =
+    let parts = and_parts (allows UpcE n place b) (all_from (place + 1) (allows UpcE n) bs) h in
+    and_from (is_digit b) (list_all is_digit bs) (by_first (place == 0) n b parts.0) (upce_digits n (place + 1) bs parts.1)
+
+all_upce_digits : (content : List ℕ) → IsTrue (is_content UpcE content) → list_all is_digit content ≡ true
+all_upce_digits content h = upce_digits (length content) 0 content (and_parts (has_length UpcE (length content)) (all_from 0 (allows UpcE (length content)) content) h).1
+
+given_there : {A B : Type 0} (o : Option A) (f : A → B) → is_some o ≡ true → is_some (given o (λ x. Some (f x))) ≡ true
+given_there None f h = h
+given_there (Some x) f h = refl
+
+parts_there : (content : List ℕ) → list_all is_digit content ≡ true → is_some (upce_parts content) ≡ true → IsTrue (is_some (elements UpcE content))
+parts_there content h k =
+    ap (λ (t : Bool). is_some (if t then given (upce_parts content) (λ p. Some (upce_elements p.0 p.1)) else None)) h
+    ∙ given_there (upce_parts content) (λ p. upce_elements p.0 p.1) k
+
+some_first : {A : Type 0} (t : Bool) (x : A) (o : Option A) → t ≡ true → is_some (if t then Some x else o) ≡ true
+some_first true x o h = refl
+some_first false x o h = absurd cc
+
+some_later : {A : Type 0} (t : Bool) (x : A) (o : Option A) → is_some o ≡ true → is_some (if t then Some x else o) ≡ true
+some_later true x o h = refl
+some_later false x o h = h
+
+pub upce_six_there : (content : List ℕ) → IsTrue (list_all is_digit content) → length content ≡ 7 → IsTrue (is_some (elements UpcE content))
+upce_six_there content h n = parts_there content h (some_first (length content == 7) _ _ (eq-eqb (length content) 7 n))
+
+pub upce_there : (content : List ℕ) → IsTrue (is_content UpcE content) → length content ≡ 8 → IsTrue (is_some (elements UpcE content))
+upce_there [] h n = absurd (omega arith)
+upce_there (c ∷ cs) h n =
+    let content = c ∷ cs in
+    let all = and_parts (has_length UpcE (length content)) (all_from 0 (allows UpcE (length content)) content) h in
+    let first = and_parts (is_upce_first (length content) c) (all_from 1 (allows UpcE (length content)) cs) all.1 in
+    let zero_first : (c == 0x30) ≡ true = sym (ap (λ m. is_upce_first m c) n) ∙ first.0 in
+    parts_there content (all_upce_digits content h)
+    (some_later (length content == 7) _ _ (some_first (length content == 8 && c == 0x30) _ _ (and_from (length content == 8) (c == 0x30) (eq-eqb (length content) 8 n) zero_first)))
+
+abbrev stands : List ℕ → List ℕ → Bool
+stands digits six = pointwise nat_eq (expanded six) digits
+
+itself : (xs : List ℕ) → pointwise nat_eq xs xs ≡ true
+itself [] = refl
+itself (x ∷ xs) = and_from (x == x) (pointwise nat_eq xs xs) (eq-eqb x x refl) (itself xs)
+
+or_first : (p q : Bool) → p ≡ true → (p || q) ≡ true
+or_first true q h = refl
+or_first false q h = absurd cc
+
+or_second : (p q : Bool) → q ≡ true → (p || q) ≡ true
+or_second true q h = refl
+or_second false q h = h
+
+first_there : (digits : List ℕ) (sixes : List (List ℕ)) → list_any (stands digits) sixes ≡ true → is_some (first_for digits sixes) ≡ true
+first_there digits [] h = absurd cc
+first_there digits (s ∷ ss) h = elim (or_cases (stands digits s) (list_any (stands digits) ss) h) [
+  | inl e ↦ some_first (stands digits s) s (first_for digits ss) e
+  | inr e ↦ some_later (stands digits s) s (first_for digits ss) (first_there digits ss e)
+]
+
+-- The digits for which six stand by their last one
+abbrev by_two : (a b c d e f : ℕ) → List ℕ
+by_two a b c d e f = 0x30 ∷ a ∷ b ∷ f ∷ 0x30 ∷ 0x30 ∷ 0x30 ∷ 0x30 ∷ c ∷ d ∷ e ∷ []
+
+abbrev by_three : (a b c d e : ℕ) → List ℕ
+by_three a b c d e = 0x30 ∷ a ∷ b ∷ c ∷ 0x30 ∷ 0x30 ∷ 0x30 ∷ 0x30 ∷ 0x30 ∷ d ∷ e ∷ []
+
+abbrev by_four : (a b c d e : ℕ) → List ℕ
+by_four a b c d e = 0x30 ∷ a ∷ b ∷ c ∷ d ∷ 0x30 ∷ 0x30 ∷ 0x30 ∷ 0x30 ∷ 0x30 ∷ e ∷ []
+
+abbrev by_others : (a b c d e f : ℕ) → List ℕ
+by_others a b c d e f = 0x30 ∷ a ∷ b ∷ c ∷ d ∷ e ∷ 0x30 ∷ 0x30 ∷ 0x30 ∷ 0x30 ∷ f ∷ []
+
+abbrev by_tests : (s t u : Bool) (a b c d e f : ℕ) → List ℕ
+by_tests s t u a b c d e f = if s then by_two a b c d e f else if t then by_three a b c d e else if u then by_four a b c d e else by_others a b c d e f
+
+module _ (p : List ℕ → Bool) (w x y z : List ℕ) where
+  is_first : p w ≡ true → list_any p (w ∷ x ∷ y ∷ z ∷ []) ≡ true
+  is_first h = or_first (p w) (p x || (p y || (p z || false))) h
+
+  is_second : p x ≡ true → list_any p (w ∷ x ∷ y ∷ z ∷ []) ≡ true
+  is_second h = or_second (p w) (p x || (p y || (p z || false))) (or_first (p x) (p y || (p z || false)) h)
+
+  is_third : p y ≡ true → list_any p (w ∷ x ∷ y ∷ z ∷ []) ≡ true
+  is_third h = or_second (p w) (p x || (p y || (p z || false))) (or_second (p x) (p y || (p z || false)) (or_first (p y) (p z || false) h))
+
+  is_fourth : p z ≡ true → list_any p (w ∷ x ∷ y ∷ z ∷ []) ≡ true
+  is_fourth h = or_second (p w) (p x || (p y || (p z || false))) (or_second (p x) (p y || (p z || false)) (or_second (p y) (p z || false) (or_first (p z) false h)))
+
+-- One of the ways to leave zeros out leaves six digits that stand for them.
+one_stands : (a b c d e f : ℕ) (s t u : Bool) → nat_le f 0x32 ≡ s → (f == 0x33) ≡ t → (f == 0x34) ≡ u →
+    list_any (stands (by_tests s t u a b c d e f)) (shorter (by_tests s t u a b c d e f)) ≡ true
+one_stands a b c d e f true t u x y z =
+    is_first (stands (by_two a b c d e f)) (a ∷ b ∷ c ∷ d ∷ e ∷ f ∷ []) (a ∷ b ∷ f ∷ d ∷ e ∷ 0x33 ∷ []) (a ∷ b ∷ f ∷ 0x30 ∷ e ∷ 0x34 ∷ []) (a ∷ b ∷ f ∷ 0x30 ∷ 0x30 ∷ e ∷ [])
+    (ap (λ (v : Bool). pointwise nat_eq (by_tests v (f == 0x33) (f == 0x34) a b c d e f) (by_two a b c d e f)) x ∙ itself (by_two a b c d e f))
+one_stands a b c d e f false true u x y z = is_second (stands (by_three a b c d e)) (a ∷ b ∷ 0x30 ∷ d ∷ e ∷ c ∷ []) (a ∷ b ∷ c ∷ d ∷ e ∷ 0x33 ∷ []) (a ∷ b ∷ c ∷ 0x30 ∷ e ∷ 0x34 ∷ []) (a ∷ b ∷ c ∷ 0x30 ∷ 0x30 ∷ e ∷ []) (itself (by_three a b c d e))
+one_stands a b c d e f false false true x y z = is_third (stands (by_four a b c d e)) (a ∷ b ∷ 0x30 ∷ 0x30 ∷ e ∷ c ∷ []) (a ∷ b ∷ c ∷ 0x30 ∷ e ∷ 0x33 ∷ []) (a ∷ b ∷ c ∷ d ∷ e ∷ 0x34 ∷ []) (a ∷ b ∷ c ∷ d ∷ 0x30 ∷ e ∷ []) (itself (by_four a b c d e))
+one_stands a b c d e f false false false x y z =
+    is_fourth (stands (by_others a b c d e f)) (a ∷ b ∷ 0x30 ∷ 0x30 ∷ f ∷ c ∷ []) (a ∷ b ∷ c ∷ 0x30 ∷ f ∷ 0x33 ∷ []) (a ∷ b ∷ c ∷ d ∷ f ∷ 0x34 ∷ []) (a ∷ b ∷ c ∷ d ∷ e ∷ f ∷ [])
+    (ap (λ (v : Bool). pointwise nat_eq (by_tests v (f == 0x33) (f == 0x34) a b c d e f) (by_others a b c d e f)) x
+    ∙ ap (λ (v : Bool). pointwise nat_eq (by_tests false v (f == 0x34) a b c d e f) (by_others a b c d e f)) y
+    ∙ ap (λ (v : Bool). pointwise nat_eq (by_tests false false v a b c d e f) (by_others a b c d e f)) z ∙ itself (by_others a b c d e f))
+
+some_stands : (six : List ℕ) → length six ≡ 6 → list_any (stands (expanded six)) (shorter (expanded six)) ≡ true
+some_stands (a ∷ b ∷ c ∷ d ∷ e ∷ f ∷ []) n = one_stands a b c d e f (nat_le f 0x32) (f == 0x33) (f == 0x34) refl refl refl
+some_stands [] n = absurd (omega arith)
+some_stands (a ∷ []) n = absurd (omega arith)
+some_stands (a ∷ b ∷ []) n = absurd (omega arith)
+some_stands (a ∷ b ∷ c ∷ []) n = absurd (omega arith)
+some_stands (a ∷ b ∷ c ∷ d ∷ []) n = absurd (omega arith)
+some_stands (a ∷ b ∷ c ∷ d ∷ e ∷ []) n = absurd (omega arith)
+some_stands (a ∷ b ∷ c ∷ d ∷ e ∷ f ∷ g ∷ more) n = absurd (omega arith)
+
+pub upce_long_there : (content six : List ℕ) → IsTrue (is_content UpcE content) → length content ≡ 12 → length six ≡ 6 → expanded six ≡ take 11 content →
+    IsTrue (is_some (elements UpcE content))
+upce_long_there content six h n k e =
+    let found = first_there (take 11 content) (shorter (take 11 content)) (subst (λ ds. list_any (stands ds) (shorter ds) ≡ true) e (some_stands six k)) in
+    let with_check : List ℕ → List ℕ × ℕ = λ s. (s, slice_index content 11) in
+    parts_there content (all_upce_digits content h)
+    (some_later (length content == 7) _ _ (some_later (length content == 8 && slice_index content 0 == 0x30) _ _
+    (ap (λ (t : Bool). is_some (if t then given (first_for (take 11 content) (shorter (take 11 content))) (λ s. Some (with_check s)) else None)) (eq-eqb (length content) 12 n)
+    ∙ given_there (first_for (take 11 content) (shorter (take 11 content))) with_check found)))
+
+-- ## CODE93
+
+below_128 : (n place : ℕ) (bs : List ℕ) → all_from place (allows Code93 n) bs ≡ true → list_all (λ b. nat_lt b 0x80) bs ≡ true
+below_128 n place [] h = refl
+below_128 n place (b ∷ bs) h =
+    let parts = and_parts (nat_lt b 0x80) (all_from (place + 1) (allows Code93 n) bs) h in
+    and_from (nat_lt b 0x80) (list_all (λ c. nat_lt c 0x80) bs) parts.0 (below_128 n (place + 1) bs parts.1)
+
+pub code93_there : (content : List ℕ) → IsTrue (is_content Code93 content) → IsTrue (is_some (elements Code93 content))
+code93_there content h =
+    let n = length content in
+    let parts = and_parts (has_length Code93 n) (all_from 0 (allows Code93 n) content) h in
+    let long = and_parts (nat_le 1 n) (nat_le n 255) parts.0 in
+    some_there (is_code93_content content) _ (and_from (nat_le 1 n) (list_all (λ b. nat_lt b 0x80) content) long.0 (below_128 n 0 content parts.1))
 
 -- ## CODE39
 

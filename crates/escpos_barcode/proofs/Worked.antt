@@ -2,13 +2,14 @@
 use Rattle.std.proofs.Common.{◌≡◌, ℕ, ◌+◌, ◌*◌, List, [], ◌∷◌, ◌++◌, map, refl}
 use Rattle.std.specs.Prelude.{◌==◌, ◌&&◌, ◌||◌, ◌%◌, sum, length, true, is_some, None, Some, codes}
 use Rattle.std.specs.List.{list_all}
-use Rattle.escpos_command.specs.declared.bars.Symbology.TheVariants.{UpcA, Ean13, Ean8, Code39, Itf, Codabar, Code128}
+use Rattle.escpos_command.specs.declared.bars.Symbology.TheVariants.{UpcA, UpcE, Ean13, Ean8, Code39, Itf, Codabar, Code93, Code128, Gs1Code128}
 use Rattle.escpos_barcode.specs.Code128.{code128_values, check_value}
-use Rattle.escpos_barcode.specs.Elements.{elements}
+use Rattle.escpos_barcode.specs.Elements.{elements, shortened}
+use Rattle.escpos_barcode.specs.Gs1.{gs1_values}
 use Rattle.escpos_barcode.specs.Drawn.{wide, drawn, with_added}
-use Rattle.escpos_barcode.specs.Reader.{bars, read, read_elements}
+use Rattle.escpos_barcode.specs.Reader.{ascii, bars, read, read_elements}
 use Rattle.escpos_barcode.specs.Shown.{shown}
-use Rattle.escpos_barcode.specs.Tables.{set_a, set_b, right_digits, left_digits, parity_rows, parities, code39_data, code39_star, itf_rows, itf_digits, codabar_table, code128_rows, code128_table, code39_table}
+use Rattle.escpos_barcode.specs.Tables.{set_a, set_b, right_digits, left_digits, parity_rows, parities, upce_parity_rows, upce_parities, code39_data, code39_star, itf_rows, itf_digits, codabar_table, code93_rows, code93_table, code128_rows, code128_table, code39_table}
 
 -- UPC-A 03600029145 and its check digit 2
 upca : elements UpcA (codes "036000291452") ≡ Some (1 ∷ 1 ∷ 1 ∷ 3 ∷ 2 ∷ 1 ∷ 1 ∷ 1 ∷ 4 ∷ 1 ∷ 1 ∷ 1 ∷ 1 ∷ 1 ∷ 4 ∷ 3 ∷ 2 ∷ 1 ∷ 1 ∷ 3 ∷ 2 ∷ 1 ∷ 1 ∷ 3 ∷ 2 ∷ 1 ∷ 1 ∷ 1 ∷ 1 ∷ 1 ∷ 1 ∷ 1 ∷ 2 ∷ 1 ∷ 2 ∷ 2 ∷ 3 ∷ 1 ∷ 1 ∷ 2 ∷ 2 ∷ 2 ∷ 2 ∷ 1 ∷ 1 ∷ 1 ∷ 3 ∷ 2 ∷ 1 ∷ 2 ∷ 3 ∷ 1 ∷ 2 ∷ 1 ∷ 2 ∷ 2 ∷ 1 ∷ 1 ∷ 1 ∷ [])
@@ -18,6 +19,67 @@ upca = refl
 upca_read : read_elements UpcA (1 ∷ 1 ∷ 1 ∷ 3 ∷ 2 ∷ 1 ∷ 1 ∷ 1 ∷ 4 ∷ 1 ∷ 1 ∷ 1 ∷ 1 ∷ 1 ∷ 4 ∷ 3 ∷ 2 ∷ 1 ∷ 1 ∷ 3 ∷ 2 ∷ 1 ∷ 1 ∷ 3 ∷ 2 ∷ 1 ∷ 1 ∷ 1 ∷ 1 ∷ 1 ∷ 1 ∷ 1 ∷ 2 ∷ 1 ∷ 2 ∷ 2 ∷ 3 ∷ 1 ∷ 1 ∷ 2 ∷ 2 ∷ 2 ∷ 2 ∷ 1 ∷ 1 ∷ 1 ∷ 3 ∷ 2 ∷ 1 ∷ 2 ∷ 3 ∷ 1 ∷ 2 ∷ 1 ∷ 2 ∷ 2 ∷ 1 ∷ 1 ∷ 1 ∷ []) ≡ Some (codes "036000291452")
 unfolding set_a set_b right_digits left_digits parity_rows parities code39_data code39_star itf_rows itf_digits codabar_table code128_rows code128_table
 upca_read = refl
+
+-- UPC-E 123456 and its check digit 5, with the number sets BAABBA
+upce : elements UpcE (codes "1234565") ≡ Some (1 ∷ 1 ∷ 1 ∷ 1 ∷ 2 ∷ 2 ∷ 2 ∷ 2 ∷ 1 ∷ 2 ∷ 2 ∷ 1 ∷ 4 ∷ 1 ∷ 1 ∷ 2 ∷ 3 ∷ 1 ∷ 1 ∷ 1 ∷ 3 ∷ 2 ∷ 1 ∷ 1 ∷ 1 ∷ 1 ∷ 4 ∷ 1 ∷ 1 ∷ 1 ∷ 1 ∷ 1 ∷ 1 ∷ [])
+unfolding set_a set_b right_digits left_digits parity_rows parities upce_parity_rows upce_parities code93_rows code93_table code128_rows code128_table
+upce = refl
+
+upce_read : read_elements UpcE (1 ∷ 1 ∷ 1 ∷ 1 ∷ 2 ∷ 2 ∷ 2 ∷ 2 ∷ 1 ∷ 2 ∷ 2 ∷ 1 ∷ 4 ∷ 1 ∷ 1 ∷ 2 ∷ 3 ∷ 1 ∷ 1 ∷ 1 ∷ 3 ∷ 2 ∷ 1 ∷ 1 ∷ 1 ∷ 1 ∷ 4 ∷ 1 ∷ 1 ∷ 1 ∷ 1 ∷ 1 ∷ 1 ∷ []) ≡ Some (codes "01234565")
+unfolding set_a set_b right_digits left_digits parity_rows parities upce_parity_rows upce_parities code93_rows code93_table code128_rows code128_table ascii
+upce_read = refl
+
+-- The same with the number system, and the UPC-A for which it stands
+upce_whole : elements UpcE (codes "01234565") ≡ elements UpcE (codes "1234565")
+unfolding set_a set_b right_digits left_digits parity_rows parities upce_parity_rows upce_parities code93_rows code93_table code128_rows code128_table
+upce_whole = refl
+
+upce_long : elements UpcE (codes "012345000065") ≡ elements UpcE (codes "1234565")
+unfolding set_a set_b right_digits left_digits parity_rows parities upce_parity_rows upce_parities code93_rows code93_table code128_rows code128_table
+upce_long = refl
+
+-- The four ways to leave out zeros, and digits for which no six stand
+ways : (shortened (codes "01230000045") ≡ Some (codes "123453")) × (shortened (codes "01260000045") ≡ Some (codes "126453"))
+    × (shortened (codes "01264000005") ≡ Some (codes "126454")) × (shortened (codes "01264500005") ≡ Some (codes "126455"))
+    × (shortened (codes "01264500004") ≡ None) × (shortened (codes "01100000345") ≡ Some (codes "113450"))
+ways = (refl, refl, refl, refl, refl, refl)
+
+-- CODE93 "TEST93", whose check characters are + and 6
+code93 : elements Code93 (codes "TEST93") ≡ Some (1 ∷ 1 ∷ 1 ∷ 1 ∷ 4 ∷ 1 ∷ 2 ∷ 1 ∷ 1 ∷ 2 ∷ 2 ∷ 1 ∷ 2 ∷ 2 ∷ 1 ∷ 2 ∷ 1 ∷ 1 ∷ 2 ∷ 1 ∷ 1 ∷ 1 ∷ 2 ∷ 2 ∷ 2 ∷ 1 ∷ 1 ∷ 2 ∷ 2 ∷ 1 ∷ 1 ∷ 4 ∷ 1 ∷ 1 ∷ 1 ∷ 1 ∷ 1 ∷ 1 ∷ 1 ∷ 4 ∷ 1 ∷ 1 ∷ 1 ∷ 1 ∷ 3 ∷ 1 ∷ 2 ∷ 1 ∷ 1 ∷ 2 ∷ 1 ∷ 3 ∷ 1 ∷ 1 ∷ 1 ∷ 1 ∷ 1 ∷ 1 ∷ 4 ∷ 1 ∷ 1 ∷ [])
+unfolding set_a set_b right_digits left_digits parity_rows parities upce_parity_rows upce_parities code93_rows code93_table code128_rows code128_table
+code93 = refl
+
+code93_read : read_elements Code93 (1 ∷ 1 ∷ 1 ∷ 1 ∷ 4 ∷ 1 ∷ 2 ∷ 1 ∷ 1 ∷ 2 ∷ 2 ∷ 1 ∷ 2 ∷ 2 ∷ 1 ∷ 2 ∷ 1 ∷ 1 ∷ 2 ∷ 1 ∷ 1 ∷ 1 ∷ 2 ∷ 2 ∷ 2 ∷ 1 ∷ 1 ∷ 2 ∷ 2 ∷ 1 ∷ 1 ∷ 4 ∷ 1 ∷ 1 ∷ 1 ∷ 1 ∷ 1 ∷ 1 ∷ 1 ∷ 4 ∷ 1 ∷ 1 ∷ 1 ∷ 1 ∷ 3 ∷ 1 ∷ 2 ∷ 1 ∷ 1 ∷ 2 ∷ 1 ∷ 3 ∷ 1 ∷ 1 ∷ 1 ∷ 1 ∷ 1 ∷ 1 ∷ 4 ∷ 1 ∷ 1 ∷ []) ≡ Some (codes "TEST93")
+unfolding set_a set_b right_digits left_digits parity_rows parities upce_parity_rows upce_parities code93_rows code93_table code128_rows code128_table ascii
+code93_read = refl
+
+-- The values of each byte, as the standard lists them
+ascii_listed : map (λ r. r.1) ascii ≡
+    (44 ∷ 30 ∷ []) ∷ (43 ∷ 10 ∷ []) ∷ (43 ∷ 11 ∷ []) ∷ (43 ∷ 12 ∷ []) ∷ (43 ∷ 13 ∷ []) ∷ (43 ∷ 14 ∷ []) ∷ (43 ∷ 15 ∷ []) ∷ (43 ∷ 16 ∷ []) ∷ (43 ∷ 17 ∷ []) ∷ (43 ∷ 18 ∷ []) ∷ (43 ∷ 19 ∷ []) ∷ (43 ∷ 20 ∷ []) ∷ (43 ∷ 21 ∷ []) ∷ (43 ∷ 22 ∷ []) ∷ (43 ∷ 23 ∷ []) ∷ (43 ∷ 24 ∷ []) ∷ (43 ∷ 25 ∷ []) ∷ (43 ∷ 26 ∷ []) ∷ (43 ∷ 27 ∷ []) ∷ (43 ∷ 28 ∷ []) ∷ (43 ∷ 29 ∷ []) ∷ (43 ∷ 30 ∷ []) ∷ (43 ∷ 31 ∷ []) ∷ (43 ∷ 32 ∷ []) ∷ (43 ∷ 33 ∷ []) ∷ (43 ∷ 34 ∷ []) ∷ (43 ∷ 35 ∷ []) ∷ (44 ∷ 10 ∷ []) ∷ (44 ∷ 11 ∷ []) ∷ (44 ∷ 12 ∷ []) ∷ (44 ∷ 13 ∷ []) ∷ (44 ∷ 14 ∷ []) ∷ (38 ∷ []) ∷ (45 ∷ 10 ∷ []) ∷ (45 ∷ 11 ∷ []) ∷ (45 ∷ 12 ∷ []) ∷ (39 ∷ []) ∷ (42 ∷ []) ∷ (45 ∷ 15 ∷ []) ∷ (45 ∷ 16 ∷ []) ∷ (45 ∷ 17 ∷ []) ∷ (45 ∷ 18 ∷ []) ∷ (45 ∷ 19 ∷ []) ∷ (41 ∷ []) ∷ (45 ∷ 21 ∷ []) ∷ (36 ∷ []) ∷ (37 ∷ []) ∷ (40 ∷ []) ∷ (0 ∷ []) ∷ (1 ∷ []) ∷ (2 ∷ []) ∷ (3 ∷ []) ∷ (4 ∷ []) ∷ (5 ∷ []) ∷ (6 ∷ []) ∷ (7 ∷ []) ∷ (8 ∷ []) ∷ (9 ∷ []) ∷ (45 ∷ 35 ∷ []) ∷ (44 ∷ 15 ∷ []) ∷ (44 ∷ 16 ∷ []) ∷ (44 ∷ 17 ∷ []) ∷ (44 ∷ 18 ∷ []) ∷ (44 ∷ 19 ∷ []) ∷ (44 ∷ 31 ∷ []) ∷ (10 ∷ []) ∷ (11 ∷ []) ∷ (12 ∷ []) ∷ (13 ∷ []) ∷ (14 ∷ []) ∷ (15 ∷ []) ∷ (16 ∷ []) ∷ (17 ∷ []) ∷ (18 ∷ []) ∷ (19 ∷ []) ∷ (20 ∷ []) ∷ (21 ∷ []) ∷ (22 ∷ []) ∷ (23 ∷ []) ∷ (24 ∷ []) ∷ (25 ∷ []) ∷ (26 ∷ []) ∷ (27 ∷ []) ∷ (28 ∷ []) ∷ (29 ∷ []) ∷ (30 ∷ []) ∷ (31 ∷ []) ∷ (32 ∷ []) ∷ (33 ∷ []) ∷ (34 ∷ []) ∷ (35 ∷ []) ∷ (44 ∷ 20 ∷ []) ∷ (44 ∷ 21 ∷ []) ∷ (44 ∷ 22 ∷ []) ∷ (44 ∷ 23 ∷ []) ∷ (44 ∷ 24 ∷ []) ∷ (44 ∷ 32 ∷ []) ∷ (46 ∷ 10 ∷ []) ∷ (46 ∷ 11 ∷ []) ∷ (46 ∷ 12 ∷ []) ∷ (46 ∷ 13 ∷ []) ∷ (46 ∷ 14 ∷ []) ∷ (46 ∷ 15 ∷ []) ∷ (46 ∷ 16 ∷ []) ∷ (46 ∷ 17 ∷ []) ∷ (46 ∷ 18 ∷ []) ∷ (46 ∷ 19 ∷ []) ∷ (46 ∷ 20 ∷ []) ∷ (46 ∷ 21 ∷ []) ∷ (46 ∷ 22 ∷ []) ∷ (46 ∷ 23 ∷ []) ∷ (46 ∷ 24 ∷ []) ∷ (46 ∷ 25 ∷ []) ∷ (46 ∷ 26 ∷ []) ∷ (46 ∷ 27 ∷ []) ∷ (46 ∷ 28 ∷ []) ∷ (46 ∷ 29 ∷ []) ∷ (46 ∷ 30 ∷ []) ∷ (46 ∷ 31 ∷ []) ∷ (46 ∷ 32 ∷ []) ∷ (46 ∷ 33 ∷ []) ∷ (46 ∷ 34 ∷ []) ∷ (46 ∷ 35 ∷ []) ∷ (44 ∷ 25 ∷ []) ∷ (44 ∷ 26 ∷ []) ∷ (44 ∷ 27 ∷ []) ∷ (44 ∷ 28 ∷ []) ∷ (44 ∷ 29 ∷ []) ∷ []
+unfolding ascii
+ascii_listed = refl
+
+-- GS1-128 with an application identifier and a check digit, 3: the digits in set C, and FNC1 before them
+gs1 : elements Gs1Code128 (codes "(01)0950110153000*") ≡ Some (2 ∷ 1 ∷ 1 ∷ 2 ∷ 3 ∷ 2 ∷ 4 ∷ 1 ∷ 1 ∷ 1 ∷ 3 ∷ 1 ∷ 2 ∷ 2 ∷ 2 ∷ 1 ∷ 2 ∷ 2 ∷ 2 ∷ 2 ∷ 1 ∷ 2 ∷ 1 ∷ 3 ∷ 2 ∷ 3 ∷ 1 ∷ 1 ∷ 3 ∷ 1 ∷ 2 ∷ 3 ∷ 1 ∷ 2 ∷ 1 ∷ 2 ∷ 2 ∷ 2 ∷ 2 ∷ 1 ∷ 2 ∷ 2 ∷ 2 ∷ 1 ∷ 3 ∷ 1 ∷ 3 ∷ 1 ∷ 2 ∷ 1 ∷ 2 ∷ 2 ∷ 2 ∷ 2 ∷ 1 ∷ 2 ∷ 1 ∷ 2 ∷ 2 ∷ 3 ∷ 1 ∷ 2 ∷ 2 ∷ 1 ∷ 1 ∷ 4 ∷ 2 ∷ 3 ∷ 3 ∷ 1 ∷ 1 ∷ 1 ∷ 2 ∷ [])
+unfolding set_a set_b right_digits left_digits parity_rows parities upce_parity_rows upce_parities code93_rows code93_table code128_rows code128_table
+gs1 = refl
+
+gs1_read : read_elements Gs1Code128 (2 ∷ 1 ∷ 1 ∷ 2 ∷ 3 ∷ 2 ∷ 4 ∷ 1 ∷ 1 ∷ 1 ∷ 3 ∷ 1 ∷ 2 ∷ 2 ∷ 2 ∷ 1 ∷ 2 ∷ 2 ∷ 2 ∷ 2 ∷ 1 ∷ 2 ∷ 1 ∷ 3 ∷ 2 ∷ 3 ∷ 1 ∷ 1 ∷ 3 ∷ 1 ∷ 2 ∷ 3 ∷ 1 ∷ 2 ∷ 1 ∷ 2 ∷ 2 ∷ 2 ∷ 2 ∷ 1 ∷ 2 ∷ 2 ∷ 2 ∷ 1 ∷ 3 ∷ 1 ∷ 3 ∷ 1 ∷ 2 ∷ 1 ∷ 2 ∷ 2 ∷ 2 ∷ 2 ∷ 1 ∷ 2 ∷ 1 ∷ 2 ∷ 2 ∷ 3 ∷ 1 ∷ 2 ∷ 2 ∷ 1 ∷ 1 ∷ 4 ∷ 2 ∷ 3 ∷ 3 ∷ 1 ∷ 1 ∷ 1 ∷ 2 ∷ []) ≡ Some (codes "0109501101530003")
+unfolding set_a set_b right_digits left_digits parity_rows parities upce_parity_rows upce_parities code93_rows code93_table code128_rows code128_table ascii
+gs1_read = refl
+
+-- Code sets: two digits and one alone in set B, five with the first alone, a control character after SHIFT
+gs1_sets : gs1_values (codes "(10)A1{1(21)12345z" ++ 5 ∷ []) ≡ Some (104 ∷ 102 ∷ 17 ∷ 16 ∷ 33 ∷ 17 ∷ 102 ∷ 99 ∷ 21 ∷ 12 ∷ 34 ∷ 100 ∷ 21 ∷ 90 ∷ 98 ∷ 69 ∷ [])
+gs1_sets = refl
+
+-- Characters that mean something else of their own, and FNC3
+gs1_escapes : gs1_values (codes "{({){*{{{3") ≡ Some (104 ∷ 102 ∷ 8 ∷ 9 ∷ 10 ∷ 91 ∷ 96 ∷ [])
+gs1_escapes = refl
+
+-- No brace that means nothing, no check digit without an identifier or of other characters, and no data at all
+gs1_none : (gs1_values (codes "12{2") ≡ None) × (gs1_values (codes "12*") ≡ None) × (gs1_values (codes "(01)1A*") ≡ None) × (gs1_values (codes "(){1") ≡ None)
+    × (gs1_values (0x80 ∷ 0x31 ∷ []) ≡ None)
+gs1_none = (refl, refl, refl, refl, refl)
 
 -- EAN-13 4006381333931: the first digit 4 is ABAABB
 ean13 : elements Ean13 (codes "4006381333931") ≡ Some (1 ∷ 1 ∷ 1 ∷ 3 ∷ 2 ∷ 1 ∷ 1 ∷ 1 ∷ 1 ∷ 2 ∷ 3 ∷ 1 ∷ 1 ∷ 1 ∷ 4 ∷ 1 ∷ 4 ∷ 1 ∷ 1 ∷ 3 ∷ 1 ∷ 2 ∷ 1 ∷ 1 ∷ 2 ∷ 2 ∷ 2 ∷ 1 ∷ 1 ∷ 1 ∷ 1 ∷ 1 ∷ 1 ∷ 4 ∷ 1 ∷ 1 ∷ 1 ∷ 4 ∷ 1 ∷ 1 ∷ 1 ∷ 4 ∷ 1 ∷ 1 ∷ 3 ∷ 1 ∷ 1 ∷ 2 ∷ 1 ∷ 4 ∷ 1 ∷ 1 ∷ 2 ∷ 2 ∷ 2 ∷ 1 ∷ 1 ∷ 1 ∷ 1 ∷ [])
@@ -243,6 +305,16 @@ functions : (code128_values (codes "{A{2{3A{4{1") ≡ Some (103 ∷ 97 ∷ 96 �
     × (code128_values (codes "{C{1" ++ 12 ∷ codes "{AA") ≡ Some (105 ∷ 102 ∷ 12 ∷ 101 ∷ 33 ∷ []))
 functions = (refl, refl, refl)
 
+-- The text beside the bars.
+shown_upce : shown UpcE (codes "012345000065") ≡ codes "01234565"
+shown_upce = refl
+
+shown_code93 : shown Code93 (codes "a" ++ 9 ∷ codes "b") ≡ codes "a b"
+shown_code93 = refl
+
+shown_gs1 : shown Gs1Code128 (codes "(01)0950110153000*(10)A{1{(") ≡ codes "(01)09501101530003(10)A ("
+shown_gs1 = refl
+
 -- All printable bytes are shown.
 shown_all : shown Itf (codes " !\"#$%&'()*+,-./0123456789:;<=>?@ABCDEFGHIJKLMNOPQRSTUVWXYZ[\\]^_`abcdefghijklmnopqrstuvwxyz{|}~")
     ≡ codes " !\"#$%&'()*+,-./0123456789:;<=>?@ABCDEFGHIJKLMNOPQRSTUVWXYZ[\\]^_`abcdefghijklmnopqrstuvwxyz{|}~"
@@ -266,9 +338,17 @@ parity_digest : digest 1 parity_rows ≡ 485424
 unfolding parity_rows digest numeral
 parity_digest = refl
 
+upce_parity_digest : digest 1 upce_parity_rows ≡ 5625570
+unfolding upce_parity_rows digest numeral
+upce_parity_digest = refl
+
 itf_digest : digest 1 itf_rows ≡ 847303
 unfolding itf_rows digest numeral
 itf_digest = refl
+
+code93_digest : digest 1 code93_rows ≡ 208693323
+unfolding code93_rows digest numeral
+code93_digest = refl
 
 code128_digest : digest 1 code128_rows ≡ 1231520607
 unfolding code128_rows digest numeral

@@ -1,9 +1,11 @@
 -- A barcode as the widths of its bars and spaces in dots. (Reference: GS w, GS k.)
-use Rattle.std.specs.Prelude.{ℕ, ◌+◌, ◌*◌, ◌%◌, ◌==◌, ◌&&◌, nat_le, Bool, true, false, List, [], ◌∷◌, ◌++◌, map, sum, Option, None, Some, if◌then◌else◌}
+use Rattle.std.specs.Prelude.{ℕ, ◌+◌, ◌*◌, ◌%◌, ◌==◌, ◌&&◌, nat_le, Bool, true, false, List, [], ◌∷◌, ◌++◌, map, flat_map, sum, Option, None, Some, if◌then◌else◌}
 use Rattle.escpos_command.specs.declared.bars.Symbology.{Symbology}
-use Rattle.escpos_command.specs.declared.bars.Symbology.TheVariants.{Code39, Itf, Codabar}
+use Rattle.escpos_command.specs.declared.bars.Symbology.TheVariants.{UpcE, Code39, Itf, Codabar, Gs1Code128}
 use Rattle.escpos_barcode.specs.Chains.{given}
-use Rattle.escpos_barcode.specs.Elements.{elements, upper}
+use Rattle.escpos_barcode.specs.Elements.{elements, upce_parts, short_form, upper}
+use Rattle.escpos_barcode.specs.Gs1.{gs1_parts, said, spelled_part}
+use Rattle.escpos_barcode.specs.declared.gs1.Part.{Part}
 
 -- The elements are narrow or wide, and not 1 to 4 modules wide.
 abbrev pub has_two_widths : Symbology → Bool
@@ -40,7 +42,15 @@ abbrev pub with_added : List ℕ → Option ℕ → List ℕ
 with_added content None = content
 with_added content (Some n) = content ++ (0x30 + n % 10) ∷ []
 
--- The content as it is read back: the letters of CODABAR's ends are upper-case. (It has no letters between them.)
+-- GS1-128 without what is only shown, and with its check digits.
+abbrev pub said_form : List ℕ → Option (List Part) → List ℕ
+said_form content None = content
+said_form content (Some parts) = flat_map spelled_part (said parts)
+
+-- The content as it is read back: UPC-E as eight digits, and the letters of CODABAR's ends in upper case. (It has no letters between
+-- them.)
 abbrev pub canonical : Symbology → List ℕ → List ℕ
+canonical UpcE content = short_form content (upce_parts content)
 canonical Codabar content = map upper content
+canonical Gs1Code128 content = said_form content (gs1_parts content)
 canonical symbology content = content

@@ -1,6 +1,8 @@
 pub mod Chains
 pub mod Tables
+pub mod Code93
 pub mod Code128
+pub mod Gs1
 pub mod Elements
 pub mod Drawn
 pub mod Pen

@@ -1,18 +1,20 @@
 -- The reader: it reads black and white runs back into a content as a scanner does. It shares with the drawing the
--- standards' tables and, of CODE128, the value of the check character and which code set follows a character. It isn't told
+-- standards' tables and, of CODE93 and CODE128, the values of the check characters and which code set follows a character. It isn't told
 -- the module width.
 use Rattle.std.specs.Prelude.{ℕ, ◌+◌, ◌-◌, ◌*◌, ◌/◌, ◌%◌, ◌==◌, ◌&&◌, nat_lt, not, Bool, true, false, zero, suc, List, [], ◌∷◌, ◌++◌, length, map, flat_map, take, drop, replicate, slice_index, Option, None, Some, if◌then◌else◌}
 use Rattle.std.specs.List.{list_all}
 use Rattle.escpos_command.specs.Barcodes.{is_content}
 use Rattle.escpos_command.specs.declared.bars.Symbology.{Symbology}
-use Rattle.escpos_command.specs.declared.bars.Symbology.TheVariants.{UpcA, Ean13, Ean8, Code39, Itf, Codabar, Code128}
+use Rattle.escpos_command.specs.declared.bars.Symbology.TheVariants.{UpcA, UpcE, Ean13, Ean8, Code39, Itf, Codabar, Code93, Code128, Gs1Code128}
 use Rattle.escpos_barcode.specs.declared.code128.CodeSet.{CodeSet}
 use Rattle.escpos_barcode.specs.declared.code128.CodeSet.TheVariants.{A, B, C}
 use Rattle.escpos_barcode.specs.declared.code128.Character.{Character}
 use Rattle.escpos_barcode.specs.declared.code128.Character.TheVariants.{Byte, Function1, Function2, Function3, Function4, Shift, Code}
 use Rattle.escpos_barcode.specs.Chains.{given, joined}
+use Rattle.escpos_barcode.specs.Code93.{ascii_from, check_character}
 use Rattle.escpos_barcode.specs.Code128.{is_byte, is_shift, set_after, shifted, check_value}
-use Rattle.escpos_barcode.specs.Tables.{same, symbol_of, right_digits, left_digits, parities, code39_table, itf_digits, codabar_table, code128_table}
+use Rattle.escpos_barcode.specs.Gs1.{spelled_part}
+use Rattle.escpos_barcode.specs.Tables.{same, symbol_of, right_digits, left_digits, parities, upce_parities, code39_table, itf_digits, codabar_table, code93_table, code128_table}
 
 -- ## From dots to modules
 
@@ -28,12 +30,15 @@ whole_modules module_width ws = if nat_lt 0 module_width then in_modules module_
 abbrev pub narrow_or_wide : ℕ → ℕ → ℕ
 narrow_or_wide narrow w = if nat_lt (3 * narrow) (2 * w) then 2 else 1
 
--- The first bar is one module wide, and in CODE128 two.
+-- The first bar is one module wide, and in CODE128 and GS1-128 two.
 abbrev pub units : Symbology → List ℕ → Option (List ℕ)
 units UpcA ws = whole_modules (slice_index ws 0) ws
+units UpcE ws = whole_modules (slice_index ws 0) ws
 units Ean13 ws = whole_modules (slice_index ws 0) ws
 units Ean8 ws = whole_modules (slice_index ws 0) ws
+units Code93 ws = whole_modules (slice_index ws 0) ws
 units Code128 ws = whole_modules (slice_index ws 0 / 2) ws
+units Gs1Code128 ws = whole_modules (slice_index ws 0 / 2) ws
 units Code39 ws = Some (map (narrow_or_wide (slice_index ws 0)) ws)
 units Itf ws = Some (map (narrow_or_wide (slice_index ws 0)) ws)
 units Codabar ws = Some (map (narrow_or_wide (slice_index ws 0)) ws)
@@ -95,6 +100,14 @@ read_ean13 es =
     given (read_halves 6 es) (λ r.
     given (symbol_of parities (map set_of r.0)) (λ first. Some (first ∷ map digit_of r.0 ++ r.1)))
 
+-- UPC-E: the number sets of the six digits tell the check digit. The number system is 0.
+abbrev pub read_upce : List ℕ → Option (List ℕ)
+read_upce es =
+    given (after (1 ∷ 1 ∷ 1 ∷ []) es) (λ digits.
+    given (symbols left_digits (first_rows 6 4 digits)) (λ in_sets.
+    if same (drop 24 digits) (1 ∷ 1 ∷ 1 ∷ 1 ∷ 1 ∷ 1 ∷ [])
+    then given (symbol_of upce_parities (map set_of in_sets)) (λ check. Some (0x30 ∷ map digit_of in_sets ++ check ∷ [])) else None))
+
 -- ## CODE39 and CODABAR
 
 -- A pattern that follows a narrow space
@@ -137,7 +150,33 @@ read_pairs (r ∷ rs) =
 abbrev pub read_itf : List ℕ → Option (List ℕ)
 read_itf es = given (after (1 ∷ 1 ∷ 1 ∷ 1 ∷ []) es) (λ more. given (rows_before (2 ∷ 1 ∷ 1 ∷ []) 10 more) read_pairs)
 
--- ## CODE128
+-- ## CODE93
+
+-- The bytes from 0 to 127, each with its values.
+unfoldable pub ascii : List (ℕ × List ℕ)
+ascii = ascii_from 0 (replicate 128 0)
+
+-- The bytes of values, of which the first may follow a shift character, 43 to 46.
+abbrev pub read_bytes : Option ℕ → List ℕ → Option (List ℕ)
+read_bytes None [] = Some []
+read_bytes (Some shift) [] = None
+read_bytes None (v ∷ vs) = if nat_lt v 43 then given (symbol_of ascii (v ∷ [])) (λ b. joined (b ∷ []) (read_bytes None vs)) else read_bytes (Some v) vs
+read_bytes (Some shift) (v ∷ vs) = given (symbol_of ascii (shift ∷ v ∷ [])) (λ b. joined (b ∷ []) (read_bytes None vs))
+
+-- The values before a check character, which must be the right one.
+abbrev pub before_check : ℕ → List ℕ → Option (List ℕ)
+before_check most values = given (last_off values) (λ r. if r.1 == check_character most r.0 then Some r.0 else None)
+
+-- The start character, the content, the check characters C and K, the stop character, and a bar of one module.
+abbrev pub read_code93 : List ℕ → Option (List ℕ)
+read_code93 es =
+    given (rows_before (1 ∷ []) 6 es) (λ rows.
+    given (symbols code93_table rows) (λ all.
+    given (after (47 ∷ []) all) (λ more.
+    given (last_off more) (λ stop.
+    if stop.1 == 47 then given (before_check 15 stop.0) (λ first. given (before_check 20 first) (read_bytes None)) else None))))
+
+-- ## CODE128 and GS1-128
 
 abbrev pub read_start : ℕ → Option CodeSet
 read_start v = if v == 103 then Some A else if v == 104 then Some B else if v == 105 then Some C else None
@@ -181,31 +220,50 @@ spelled (Code A) = 0x7B ∷ 0x41 ∷ []
 spelled (Code B) = 0x7B ∷ 0x42 ∷ []
 spelled (Code C) = 0x7B ∷ 0x43 ∷ []
 
+-- The content of CODE128
+abbrev pub all_spelled : List Character → Option (List ℕ)
+all_spelled cs = Some (flat_map spelled cs)
+
+-- The data of characters in a code set, in which the code sets and SHIFT no longer show: set C has two digits.
+abbrev pub data_in : CodeSet → List Character → List Character
+data_in set [] = []
+data_in set (Code next ∷ cs) = data_in next cs
+data_in set (Shift ∷ cs) = data_in set cs
+data_in C (Byte v ∷ cs) = Byte (0x30 + v / 10) ∷ Byte (0x30 + v % 10) ∷ data_in C cs
+data_in set (c ∷ cs) = c ∷ data_in set cs
+
+-- The content of GS1-128, whose first character after the start is FNC1
+abbrev pub data_spelled : List Character → Option (List ℕ)
+data_spelled (Code set ∷ Function1 ∷ cs) = Some (flat_map spelled_part (data_in set cs))
+data_spelled cs = None
+
 -- The content of the values before the check character
-abbrev pub read_content : List ℕ → Option (List ℕ)
-read_content [] = None
-read_content (start ∷ vs) =
-    given (read_start start) (λ set. given (read_values set false vs) (λ cs. Some (flat_map spelled (Code set ∷ cs))))
+abbrev pub read_content : (List Character → Option (List ℕ)) → List ℕ → Option (List ℕ)
+read_content say [] = None
+read_content say (start ∷ vs) = given (read_start start) (λ set. given (read_values set false vs) (λ cs. say (Code set ∷ cs)))
 
 -- The stop character comes last, and the right check character before it.
-abbrev pub read_checked : List ℕ → Option (List ℕ)
-read_checked all =
+abbrev pub read_checked : (List Character → Option (List ℕ)) → List ℕ → Option (List ℕ)
+read_checked say all =
     given (last_off all) (λ stop. if stop.1 == 106
-    then given (last_off stop.0) (λ check. if check.1 == check_value check.0 then read_content check.0 else None) else None)
+    then given (last_off stop.0) (λ check. if check.1 == check_value check.0 then read_content say check.0 else None) else None)
 
-abbrev pub read_code128 : List ℕ → Option (List ℕ)
-read_code128 es = given (rows_before (2 ∷ []) 6 es) (λ rows. given (symbols code128_table rows) read_checked)
+abbrev pub read_128 : (List Character → Option (List ℕ)) → List ℕ → Option (List ℕ)
+read_128 say es = given (rows_before (2 ∷ []) 6 es) (λ rows. given (symbols code128_table rows) (read_checked say))
 
 -- ## All
 
 abbrev pub read_elements : Symbology → List ℕ → Option (List ℕ)
 read_elements UpcA es = read_upc 6 es
+read_elements UpcE es = read_upce es
 read_elements Ean13 es = read_ean13 es
 read_elements Ean8 es = read_upc 4 es
 read_elements Code39 es = read_code39 es
 read_elements Itf es = read_itf es
 read_elements Codabar es = read_codabar es
-read_elements Code128 es = read_code128 es
+read_elements Code93 es = read_code93 es
+read_elements Code128 es = read_128 all_spelled es
+read_elements Gs1Code128 es = read_128 data_spelled es
 
 -- The content that the runs show, widths in dots from left to right, bar first; `None`: they show none.
 abbrev pub read : Symbology → List ℕ → Option (List ℕ)

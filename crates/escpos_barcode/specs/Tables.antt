@@ -29,7 +29,7 @@ abbrev pub numbered : ℕ → List (List ℕ) → List (ℕ × List ℕ)
 numbered n [] = []
 numbered n (r ∷ rs) = (n, r) ∷ numbered (n + 1) rs
 
--- ## UPC-A, EAN-13 and EAN-8 (GS1 General Specifications 5.2)
+-- ## UPC-A, UPC-E, EAN-13 and EAN-8 (GS1 General Specifications 5.2)
 
 -- Number set A: a space first, in the left half. Set C has the same widths, a bar first, in the right half.
 unfoldable pub set_a : List (List ℕ)
@@ -74,6 +74,23 @@ parity_rows =
 
 unfoldable pub parities : List (ℕ × List ℕ)
 parities = numbered 0x30 parity_rows
+
+-- The number sets of the six digits of UPC-E, by which its check digit is known.
+unfoldable pub upce_parity_rows : List (List ℕ)
+upce_parity_rows =
+    (1 ∷ 1 ∷ 1 ∷ 0 ∷ 0 ∷ 0 ∷ []) ∷
+    (1 ∷ 1 ∷ 0 ∷ 1 ∷ 0 ∷ 0 ∷ []) ∷
+    (1 ∷ 1 ∷ 0 ∷ 0 ∷ 1 ∷ 0 ∷ []) ∷
+    (1 ∷ 1 ∷ 0 ∷ 0 ∷ 0 ∷ 1 ∷ []) ∷
+    (1 ∷ 0 ∷ 1 ∷ 1 ∷ 0 ∷ 0 ∷ []) ∷
+    (1 ∷ 0 ∷ 0 ∷ 1 ∷ 1 ∷ 0 ∷ []) ∷
+    (1 ∷ 0 ∷ 0 ∷ 0 ∷ 1 ∷ 1 ∷ []) ∷
+    (1 ∷ 0 ∷ 1 ∷ 0 ∷ 1 ∷ 0 ∷ []) ∷
+    (1 ∷ 0 ∷ 1 ∷ 0 ∷ 0 ∷ 1 ∷ []) ∷
+    (1 ∷ 0 ∷ 0 ∷ 1 ∷ 0 ∷ 1 ∷ []) ∷ []
+
+unfoldable pub upce_parities : List (ℕ × List ℕ)
+upce_parities = numbered 0x30 upce_parity_rows
 
 -- ## CODE39 (ISO/IEC 16388)
 
@@ -172,6 +189,63 @@ codabar_table =
     (0x42, 1 ∷ 2 ∷ 1 ∷ 2 ∷ 1 ∷ 1 ∷ 2 ∷ []) ∷
     (0x43, 1 ∷ 1 ∷ 1 ∷ 2 ∷ 1 ∷ 2 ∷ 2 ∷ []) ∷
     (0x44, 1 ∷ 1 ∷ 1 ∷ 2 ∷ 2 ∷ 2 ∷ 1 ∷ []) ∷ []
+
+-- ## CODE93 (AIM BC5)
+
+unfoldable pub code93_rows : List (List ℕ)
+code93_rows =
+    (1 ∷ 3 ∷ 1 ∷ 1 ∷ 1 ∷ 2 ∷ []) ∷
+    (1 ∷ 1 ∷ 1 ∷ 2 ∷ 1 ∷ 3 ∷ []) ∷
+    (1 ∷ 1 ∷ 1 ∷ 3 ∷ 1 ∷ 2 ∷ []) ∷
+    (1 ∷ 1 ∷ 1 ∷ 4 ∷ 1 ∷ 1 ∷ []) ∷
+    (1 ∷ 2 ∷ 1 ∷ 1 ∷ 1 ∷ 3 ∷ []) ∷
+    (1 ∷ 2 ∷ 1 ∷ 2 ∷ 1 ∷ 2 ∷ []) ∷
+    (1 ∷ 2 ∷ 1 ∷ 3 ∷ 1 ∷ 1 ∷ []) ∷
+    (1 ∷ 1 ∷ 1 ∷ 1 ∷ 1 ∷ 4 ∷ []) ∷
+    (1 ∷ 3 ∷ 1 ∷ 2 ∷ 1 ∷ 1 ∷ []) ∷
+    (1 ∷ 4 ∷ 1 ∷ 1 ∷ 1 ∷ 1 ∷ []) ∷
+    (2 ∷ 1 ∷ 1 ∷ 1 ∷ 1 ∷ 3 ∷ []) ∷
+    (2 ∷ 1 ∷ 1 ∷ 2 ∷ 1 ∷ 2 ∷ []) ∷
+    (2 ∷ 1 ∷ 1 ∷ 3 ∷ 1 ∷ 1 ∷ []) ∷
+    (2 ∷ 2 ∷ 1 ∷ 1 ∷ 1 ∷ 2 ∷ []) ∷
+    (2 ∷ 2 ∷ 1 ∷ 2 ∷ 1 ∷ 1 ∷ []) ∷
+    (2 ∷ 3 ∷ 1 ∷ 1 ∷ 1 ∷ 1 ∷ []) ∷
+    (1 ∷ 1 ∷ 2 ∷ 1 ∷ 1 ∷ 3 ∷ []) ∷
+    (1 ∷ 1 ∷ 2 ∷ 2 ∷ 1 ∷ 2 ∷ []) ∷
+    (1 ∷ 1 ∷ 2 ∷ 3 ∷ 1 ∷ 1 ∷ []) ∷
+    (1 ∷ 2 ∷ 2 ∷ 1 ∷ 1 ∷ 2 ∷ []) ∷
+    (1 ∷ 3 ∷ 2 ∷ 1 ∷ 1 ∷ 1 ∷ []) ∷
+    (1 ∷ 1 ∷ 1 ∷ 1 ∷ 2 ∷ 3 ∷ []) ∷
+    (1 ∷ 1 ∷ 1 ∷ 2 ∷ 2 ∷ 2 ∷ []) ∷
+    (1 ∷ 1 ∷ 1 ∷ 3 ∷ 2 ∷ 1 ∷ []) ∷
+    (1 ∷ 2 ∷ 1 ∷ 1 ∷ 2 ∷ 2 ∷ []) ∷
+    (1 ∷ 3 ∷ 1 ∷ 1 ∷ 2 ∷ 1 ∷ []) ∷
+    (2 ∷ 1 ∷ 2 ∷ 1 ∷ 1 ∷ 2 ∷ []) ∷
+    (2 ∷ 1 ∷ 2 ∷ 2 ∷ 1 ∷ 1 ∷ []) ∷
+    (2 ∷ 1 ∷ 1 ∷ 1 ∷ 2 ∷ 2 ∷ []) ∷
+    (2 ∷ 1 ∷ 1 ∷ 2 ∷ 2 ∷ 1 ∷ []) ∷
+    (2 ∷ 2 ∷ 1 ∷ 1 ∷ 2 ∷ 1 ∷ []) ∷
+    (2 ∷ 2 ∷ 2 ∷ 1 ∷ 1 ∷ 1 ∷ []) ∷
+    (1 ∷ 1 ∷ 2 ∷ 1 ∷ 2 ∷ 2 ∷ []) ∷
+    (1 ∷ 1 ∷ 2 ∷ 2 ∷ 2 ∷ 1 ∷ []) ∷
+    (1 ∷ 2 ∷ 2 ∷ 1 ∷ 2 ∷ 1 ∷ []) ∷
+    (1 ∷ 2 ∷ 3 ∷ 1 ∷ 1 ∷ 1 ∷ []) ∷
+    (1 ∷ 2 ∷ 1 ∷ 1 ∷ 3 ∷ 1 ∷ []) ∷
+    (3 ∷ 1 ∷ 1 ∷ 1 ∷ 1 ∷ 2 ∷ []) ∷
+    (3 ∷ 1 ∷ 1 ∷ 2 ∷ 1 ∷ 1 ∷ []) ∷
+    (3 ∷ 2 ∷ 1 ∷ 1 ∷ 1 ∷ 1 ∷ []) ∷
+    (1 ∷ 1 ∷ 2 ∷ 1 ∷ 3 ∷ 1 ∷ []) ∷
+    (1 ∷ 1 ∷ 3 ∷ 1 ∷ 2 ∷ 1 ∷ []) ∷
+    (2 ∷ 1 ∷ 1 ∷ 1 ∷ 3 ∷ 1 ∷ []) ∷
+    (1 ∷ 2 ∷ 1 ∷ 2 ∷ 2 ∷ 1 ∷ []) ∷
+    (3 ∷ 1 ∷ 2 ∷ 1 ∷ 1 ∷ 1 ∷ []) ∷
+    (3 ∷ 1 ∷ 1 ∷ 1 ∷ 2 ∷ 1 ∷ []) ∷
+    (1 ∷ 2 ∷ 2 ∷ 2 ∷ 1 ∷ 1 ∷ []) ∷
+    (1 ∷ 1 ∷ 1 ∷ 1 ∷ 4 ∷ 1 ∷ []) ∷ []
+
+-- The symbols by their values: 0 to 9, A to Z, - . space $ / + %, the four shift characters, and the one that starts and stops.
+unfoldable pub code93_table : List (ℕ × List ℕ)
+code93_table = numbered 0 code93_rows
 
 -- ## CODE128 (ISO/IEC 15417)
 

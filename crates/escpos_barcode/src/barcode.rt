@@ -6,12 +6,15 @@ ghost use Rattle.escpos_barcode.specs.Elements.{elements};
 ghost use Rattle.escpos_barcode.specs.Pen.{attempt};
 ghost use Rattle.escpos_barcode.specs.Shown.{shown};
 
+use crate::code93::draw_code93;
 use crate::code128::{MOST_BYTES, draw_code128};
+use crate::gs1::draw_gs1;
 use crate::itf::draw_itf;
 use crate::pen::{Pen, Runs};
 use crate::spaced::{draw_codabar, draw_code39};
 use crate::text::{Interpretation, shown};
 use crate::upc::{draw_ean8, draw_ean13, draw_upca};
+use crate::upce::draw_upce;
 use arrayvec::ArrayVec;
 use escpos_command::{LineWidth, Symbology};
 
@@ -56,12 +59,15 @@ fn draw(pen: &mut Pen, symbology: Symbology, content: &[u8]) -> bool
 {
     match symbology {
         Symbology::UpcA => draw_upca(pen, content),
+        Symbology::UpcE => draw_upce(pen, content),
         Symbology::Ean13 => draw_ean13(pen, content),
         Symbology::Ean8 => draw_ean8(pen, content),
         Symbology::Code39 => draw_code39(pen, content),
         Symbology::Itf => draw_itf(pen, content),
         Symbology::Codabar => draw_codabar(pen, content),
+        Symbology::Code93 => draw_code93(pen, content),
         Symbology::Code128 => draw_code128(pen, content),
+        Symbology::Gs1Code128 => draw_gs1(pen, content),
     }
 }
 
@@ -79,10 +85,11 @@ fn with_added(content: &[u8], added: Option<u8>) -> ArrayVec<u8, MOST_BYTES>
 }
 
 /// What stands as text beside the bars of this content and the check digit that is added to it. (Reference: GS H.) It is the
-/// content, with a space for each byte that isn't printable; in CODE128 only the data, and in its code set C two digits for
-/// each byte. Allocates nothing.
+/// content, with a space for each byte that isn't printable; in UPC-E the eight digits that are drawn; in CODE128 only the data, and in its code set C two
+/// digits for each byte; in GS1-128 also its parentheses, and the check digits in place of their asterisks. Allocates nothing.
 ///
-/// A content that can't be spelled is shown by the same rule: nothing, where a content of CODE128 has a brace with no meaning.
+/// A content that can't be spelled is shown by the same rule: nothing, where a content of CODE128 or GS1-128 has a brace with no meaning,
+/// or one of GS1-128 a check digit of nothing.
 pub fn interpretation(symbology: Symbology, content: &[u8], added: Option<u8>) -> Interpretation
     requires { length content.now ≤ 255 }
     ensures { result ≡ shown symbology (with_added content.now added) }

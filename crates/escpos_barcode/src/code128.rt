@@ -7,8 +7,8 @@ ghost use Rattle.std.specs.Prelude.{◌≡◌, ◌≤◌, ◌<◌, ◌+◌, ◌*
 ghost use Rattle.escpos_barcode.specs.Code128.{escaped, characters, is_byte, is_shift, set_after, shifted, byte_value, code_value, value_in, value_shifted, values_after, start_value, started, code128_values, weighted, check_value};
 ghost use Rattle.std.specs.List.{list_any};
 ghost use Rattle.escpos_barcode.specs.Chains.{joined};
-ghost use Rattle.escpos_barcode.specs.Elements.{code128};
-ghost use Rattle.escpos_barcode.specs.Pen.{attempt};
+ghost use Rattle.escpos_barcode.specs.Elements.{code128, code128_elements};
+ghost use Rattle.escpos_barcode.specs.Pen.{draw, attempt};
 
 use crate::pen::Pen;
 use crate::tables::code128_pattern;
@@ -18,6 +18,11 @@ use arrayvec::ArrayVec;
 pub const MOST_BYTES: usize = 256;
 
 const _: () = prove!(MOST_BYTES == 256);
+
+/// More values than any content has.
+pub const MOST_VALUES: usize = 1024;
+
+const _: () = prove!(MOST_VALUES == 1024);
 
 /// A code set, in which values stand for characters.
 #[derive(Clone, Copy, Debug)]
@@ -69,18 +74,25 @@ pub fn draw_code128(pen: &mut Pen, content: &[u8]) -> bool
     let Some(values) = values_of(content) else {
         return false;
     };
-    let values = values.as_slice();
+    draw_values(pen, values.as_slice());
+    true
+}
+
+/// Draws values, the check character and the stop character.
+pub fn draw_values(pen: &mut Pen, values: &[u8])
+    requires { length values.now ≤ MOST_VALUES }
+    ensures { pen.new ≡ draw pen.old (code128_elements values.now) }
+{
     for value in values {
         pen.draw(code128_pattern(*value));
     }
     pen.draw(code128_pattern(check_value(values)));
     pen.draw(code128_pattern(106));
     pen.draw(&[2]);
-    true
 }
 
 // The values of a content, from the start character on.
-fn values_of(content: &[u8]) -> Option<ArrayVec<u8, MOST_BYTES>>
+fn values_of(content: &[u8]) -> Option<ArrayVec<u8, MOST_VALUES>>
     requires { length content.now ≤ MOST_BYTES }
     ensures { MatchOption result (code128_values content.now ≡ None) (λ values. code128_values content.now ≡ Some values.items) }
 {
@@ -125,9 +137,10 @@ fn escaped(byte: u8) -> Option<Character>
     }
 }
 
-// The values of characters, of which the first names a code set and at least one is data.
-fn started(characters: &[Character]) -> Option<ArrayVec<u8, MOST_BYTES>>
-    requires { length characters.now ≤ MOST_BYTES }
+/// The values of characters, of which the first names a code set and at least one is data. `None`: they aren't that, or a code set
+/// lacks a character that stands in it.
+pub fn started(characters: &[Character]) -> Option<ArrayVec<u8, MOST_VALUES>>
+    requires { length characters.now ≤ MOST_VALUES }
     ensures { MatchOption result (started characters.now ≡ None) (λ values. started characters.now ≡ Some values.items) }
 {
     match characters {
@@ -150,8 +163,8 @@ fn has_data(characters: &[Character]) -> bool
 }
 
 // The start character of a code set and the values of characters that stand in it.
-fn values_from(start: CodeSet, characters: &[Character]) -> Option<ArrayVec<u8, MOST_BYTES>>
-    requires { length characters.now < MOST_BYTES }
+fn values_from(start: CodeSet, characters: &[Character]) -> Option<ArrayVec<u8, MOST_VALUES>>
+    requires { length characters.now < MOST_VALUES }
     ensures { MatchOption result
         (values_after start false characters.now ≡ None)
         (λ values. joined (start_value start ∷ []) (values_after start false characters.now) ≡ Some values.items) }
@@ -275,7 +288,7 @@ impl CodeSet {
 
 // The value of the check character.
 fn check_value(values: &[u8]) -> u8
-    requires { length values.now ≤ MOST_BYTES }
+    requires { length values.now ≤ MOST_VALUES }
     ensures { result ≡ check_value values.now }
 {
     match values {
@@ -286,7 +299,7 @@ fn check_value(values: &[u8]) -> u8
 
 // The start character and the values after it, of which the first weighs 1, the next 2, and so on.
 fn weighted_sum(start: u8, values: &[u8]) -> usize
-    requires { length values.now < MOST_BYTES }
+    requires { length values.now < MOST_VALUES }
     ensures { result ≡ start + weighted 1 values.now }
 {
     let mut sum = usize::from(start);
@@ -298,9 +311,9 @@ fn weighted_sum(start: u8, values: &[u8]) -> usize
 
 // A value with the weight of its place, counted from 0.
 fn weight(place: usize, value: u8) -> usize
-    requires { place < MOST_BYTES }
+    requires { place < MOST_VALUES }
     ensures weight { result ≡ (place + 1) * value }
-    ensures small { result ≤ 65280 }
+    ensures small { result ≤ 261120 }
 {
     (place + 1) * usize::from(value)
 }

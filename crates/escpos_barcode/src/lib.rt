@@ -1,7 +1,8 @@
 //! Barcodes as their bars and spaces, and the text that stands beside them.
 //!
 //! `barcode` has the two calls, `runs` and `interpretation`. `tables` has the standards' patterns, `pen` draws them next to
-//! one another as long as they fit on the line, and `upc`, `spaced`, `itf` and `code128` say which of them a content has.
+//! one another as long as they fit on the line, and `upc`, `upce`, `spaced`, `itf`, `code93`, `code128` and `gs1` say which of them a
+//! content has.
 //! `text` has the interpretation.
 //!
 //! `specs/Elements.antt` defines the bars and spaces of a content in modules, and `specs/Drawn.antt` in dots.
@@ -10,6 +11,8 @@
 
 mod barcode;
 mod code128;
+mod code93;
+mod gs1;
 mod itf;
 pub mod laws;
 mod pen;
@@ -18,6 +21,7 @@ mod spaced;
 mod tables;
 mod text;
 mod upc;
+mod upce;
 
 pub use barcode::{interpretation, runs};
 pub use pen::{MOST_RUNS, Runs, wide_dots};

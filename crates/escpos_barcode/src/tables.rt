@@ -6,7 +6,7 @@
 ghost use Rattle.std.specs.Prelude.{◌≡◌, ◌+◌, ◌-◌, ◌*◌, length, IsTrue};
 ghost use Rattle.std.specs.List.{list_all};
 ghost use Rattle.escpos_command.specs.Barcodes.{is_digit};
-ghost use Rattle.escpos_barcode.specs.Tables.{row, has_row, right_digits, left_digits, parities, code39_data, code39_table, itf_digits, codabar_table, code128_table};
+ghost use Rattle.escpos_barcode.specs.Tables.{row, has_row, right_digits, left_digits, parities, code39_data, code39_table, itf_digits, codabar_table, code93_table, code128_table, upce_parities};
 ghost use Rattle.escpos_barcode.specs.Elements.{is_set};
 ghost use Rattle.escpos_barcode.specs.Pen.{is_element};
 
@@ -50,6 +50,20 @@ static PARITIES: [[u8; 6]; 10] = [
     [0, 1, 0, 1, 0, 1],
     [0, 1, 0, 1, 1, 0],
     [0, 1, 1, 0, 1, 0],
+];
+
+// The number sets of the six digits of UPC-E, by its check digit.
+static UPCE_PARITIES: [[u8; 6]; 10] = [
+    [1, 1, 1, 0, 0, 0],
+    [1, 1, 0, 1, 0, 0],
+    [1, 1, 0, 0, 1, 0],
+    [1, 1, 0, 0, 0, 1],
+    [1, 0, 1, 1, 0, 0],
+    [1, 0, 0, 1, 1, 0],
+    [1, 0, 0, 0, 1, 1],
+    [1, 0, 1, 0, 1, 0],
+    [1, 0, 1, 0, 0, 1],
+    [1, 0, 0, 1, 0, 1],
 ];
 
 // The data characters of CODE39. (ISO/IEC 16388.)
@@ -138,6 +152,58 @@ static CODABAR: [(u8, [u8; 7]); 20] = [
     (b'B', [1, 2, 1, 2, 1, 1, 2]),
     (b'C', [1, 1, 1, 2, 1, 2, 2]),
     (b'D', [1, 1, 1, 2, 2, 2, 1]),
+];
+
+// The characters of CODE93 by their values; the last starts and stops it. (AIM BC5.)
+static CODE93: [[u8; 6]; 48] = [
+    [1, 3, 1, 1, 1, 2],
+    [1, 1, 1, 2, 1, 3],
+    [1, 1, 1, 3, 1, 2],
+    [1, 1, 1, 4, 1, 1],
+    [1, 2, 1, 1, 1, 3],
+    [1, 2, 1, 2, 1, 2],
+    [1, 2, 1, 3, 1, 1],
+    [1, 1, 1, 1, 1, 4],
+    [1, 3, 1, 2, 1, 1],
+    [1, 4, 1, 1, 1, 1],
+    [2, 1, 1, 1, 1, 3],
+    [2, 1, 1, 2, 1, 2],
+    [2, 1, 1, 3, 1, 1],
+    [2, 2, 1, 1, 1, 2],
+    [2, 2, 1, 2, 1, 1],
+    [2, 3, 1, 1, 1, 1],
+    [1, 1, 2, 1, 1, 3],
+    [1, 1, 2, 2, 1, 2],
+    [1, 1, 2, 3, 1, 1],
+    [1, 2, 2, 1, 1, 2],
+    [1, 3, 2, 1, 1, 1],
+    [1, 1, 1, 1, 2, 3],
+    [1, 1, 1, 2, 2, 2],
+    [1, 1, 1, 3, 2, 1],
+    [1, 2, 1, 1, 2, 2],
+    [1, 3, 1, 1, 2, 1],
+    [2, 1, 2, 1, 1, 2],
+    [2, 1, 2, 2, 1, 1],
+    [2, 1, 1, 1, 2, 2],
+    [2, 1, 1, 2, 2, 1],
+    [2, 2, 1, 1, 2, 1],
+    [2, 2, 2, 1, 1, 1],
+    [1, 1, 2, 1, 2, 2],
+    [1, 1, 2, 2, 2, 1],
+    [1, 2, 2, 1, 2, 1],
+    [1, 2, 3, 1, 1, 1],
+    [1, 2, 1, 1, 3, 1],
+    [3, 1, 1, 1, 1, 2],
+    [3, 1, 1, 2, 1, 1],
+    [3, 2, 1, 1, 1, 1],
+    [1, 1, 2, 1, 3, 1],
+    [1, 1, 3, 1, 2, 1],
+    [2, 1, 1, 1, 3, 1],
+    [1, 2, 1, 2, 2, 1],
+    [3, 1, 2, 1, 1, 1],
+    [3, 1, 1, 1, 2, 1],
+    [1, 2, 2, 2, 1, 1],
+    [1, 1, 1, 1, 4, 1],
 ];
 
 // The characters of CODE128 by their values; the last is the stop character without its last bar. (ISO/IEC 15417.)
@@ -285,6 +351,16 @@ pub fn parities_of(digit: u8) -> &'static [u8]
     &PARITIES[usize::from(digit - b'0')]
 }
 
+/// The number sets of a UPC-E with this check digit.
+pub fn upce_parities_of(digit: u8) -> &'static [u8]
+    requires { IsTrue (is_digit digit) }
+    ensures row { result.now ≡ row upce_parities digit }
+    ensures sets { IsTrue (list_all is_set result.now) }
+    ensures six { length result.now ≡ 6 }
+{
+    &UPCE_PARITIES[usize::from(digit - b'0')]
+}
+
 /// Whether CODE39 has the byte as data.
 pub fn is_code39_data(byte: u8) -> bool
     ensures { result ≡ has_row code39_data byte }
@@ -343,6 +419,19 @@ fn pattern_of<const N: usize>(table: &'static [(u8, [u8; N])], symbol: u8) -> &'
         }
     }
     &[]
+}
+
+/// The pattern of the character of CODE93 with this value; empty if there is none.
+pub fn code93_pattern(value: u8) -> &'static [u8]
+    ensures row { result.now ≡ row code93_table value }
+    ensures elements { IsTrue (list_all is_element result.now) }
+{
+    let place = usize::from(value);
+    if place < CODE93.len() {
+        &CODE93[place]
+    } else {
+        &[]
+    }
 }
 
 /// The pattern of the character of CODE128 with this value; empty if there is none.

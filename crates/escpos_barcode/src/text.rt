@@ -1,10 +1,13 @@
 //! The human readable interpretation: what stands as text beside the bars. (Reference: GS H.)
 
-ghost use Rattle.std.specs.Prelude.{◌≡◌, ◌≤◌, ◌+◌, ◌++◌, map, length};
-ghost use Rattle.escpos_barcode.specs.Shown.{shown, shown_character, shown_characters, printable};
+ghost use Rattle.std.specs.Prelude.{◌≡◌, ◌≤◌, ◌+◌, ◌++◌, map, flat_map, length};
+ghost use Rattle.escpos_barcode.specs.Elements.{upce_parts, short_form};
+ghost use Rattle.escpos_barcode.specs.Shown.{shown, shown_character, shown_characters, shown_part, printable};
 ghost use Rattle.escpos_barcode.specs.declared.code128.CodeSet.TheVariants as set;
 
 use crate::code128::{Character, CodeSet, MOST_BYTES, characters};
+use crate::gs1::{Part, gs1_parts};
+use crate::upce::seven_digits;
 use arrayvec::ArrayVec;
 use escpos_command::Symbology;
 use std::marker::Model;
@@ -45,8 +48,13 @@ pub fn shown(symbology: Symbology, content: &[u8]) -> Interpretation
     ensures { result ≡ shown symbology content.now }
 {
     let text = match symbology {
+        Symbology::UpcE => printed_upce(content),
         Symbology::Code128 => match characters(content) {
             Some(found) => shown_characters(found.as_slice()),
+            None => ArrayVec::new(),
+        },
+        Symbology::Gs1Code128 => match gs1_parts(content) {
+            Some(parts) => shown_parts(parts.as_slice()),
             None => ArrayVec::new(),
         },
         _ => printed(content),
@@ -66,6 +74,20 @@ fn printed(content: &[u8]) -> ArrayVec<u8, MOST_SHOWN>
     text
 }
 
+// The number system, the six digits and the check digit of UPC-E.
+fn printed_upce(content: &[u8]) -> ArrayVec<u8, MOST_SHOWN>
+    requires { length content.now ≤ MOST_SHOWN }
+    ensures { result.items ≡ map printable (short_form content.now (upce_parts content.now)) }
+{
+    match seven_digits(content) {
+        Some(seven) => {
+            let [a, b, c, d, e, f, check] = seven;
+            printed(&[b'0', a, b, c, d, e, f, check])
+        }
+        None => printed(content),
+    }
+}
+
 // The data of CODE128.
 fn shown_characters(characters: &[Character]) -> ArrayVec<u8, MOST_SHOWN>
     requires { length characters.now ≤ MOST_BYTES }
@@ -76,6 +98,22 @@ fn shown_characters(characters: &[Character]) -> ArrayVec<u8, MOST_SHOWN>
     for character in characters {
         append_character(&mut text, set, *character);
         set = set.after(*character);
+    }
+    text
+}
+
+// The data of GS1-128, and what is only shown.
+fn shown_parts(parts: &[Part]) -> ArrayVec<u8, MOST_SHOWN>
+    requires { length parts.now ≤ MOST_BYTES }
+    ensures { result.items ≡ flat_map shown_part parts.now }
+{
+    let mut text = ArrayVec::new();
+    for part in parts {
+        match part {
+            Part::Data(byte) | Part::Shown(byte) => text.push(printable(*byte)),
+            Part::Function1 | Part::Function3 => text.push(b' '),
+            Part::CheckDigit => {}
+        }
     }
     text
 }

@@ -82,8 +82,8 @@ fn draw_halves(pen: &mut Pen, sets: &[u8], digits: &[u8])
     pen.draw(&[1, 1, 1]);
 }
 
-// Draws the digits of the left half in their number sets.
-fn draw_left(pen: &mut Pen, sets: &[u8], digits: &[u8])
+/// Draws the digits of the left half in their number sets.
+pub fn draw_left(pen: &mut Pen, sets: &[u8], digits: &[u8])
     requires digits { IsTrue (list_all is_digit digits.now) }
     requires sets { IsTrue (list_all is_set sets.now) }
     requires long { length sets.now ≡ length digits.now }

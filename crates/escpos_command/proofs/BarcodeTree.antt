@@ -1,6 +1,6 @@
 -- Barcodes in the tree: their spellings lead to them, and their part of the tree is good.
-use Rattle.std.proofs.Common.{◌≡◌, ◌<◌, ◌≤◌, ℕ, ◌+◌, List, [], ◌∷◌, ◌++◌, refl, ◌∙◌, ap, sym, subst, arith, true, false, length, append-nil, cond, append_assoc, length-append, Bool}
-use Rattle.std.specs.Prelude.{◌==◌, ◌||◌, nat_lt}
+use Rattle.std.proofs.Common.{◌≡◌, ◌<◌, ◌≤◌, ℕ, ◌+◌, List, [], ◌∷◌, ◌++◌, refl, ◌∙◌, ap, sym, subst, arith, true, false, length, append-nil, add-one, cond, append_assoc, length-append, Bool}
+use Rattle.std.specs.Prelude.{◌==◌, ◌&&◌, ◌||◌, nat_lt}
 use Rattle.std.specs.List.{list_all}
 use Rattle.std.proofs.lemmas.Bool.Decides.{nat_tests}
 use Rattle.escpos_command.specs.declared.bytes.TheConstants.{GS}
@@ -8,12 +8,12 @@ use Rattle.escpos_command.specs.declared.command.Command.TheVariants as kind
 use Rattle.escpos_command.specs.declared.bars.Form.{Form}
 use Rattle.escpos_command.specs.declared.bars.Form.TheVariants.{A, B}
 use Rattle.escpos_command.specs.declared.bars.Symbology.{Symbology}
-use Rattle.escpos_command.specs.declared.bars.Symbology.TheVariants.{UpcA, Ean13, Ean8, Code39, Itf, Codabar, Code128}
-use Rattle.escpos_command.specs.Barcodes.{barcode, barcode_mode, is_barcode, is_content, has_form, has_length, allows, all_from, is_digit, is_code39, is_codabar, is_codabar_end, is_code_set}
+use Rattle.escpos_command.specs.declared.bars.Symbology.TheVariants.{UpcA, UpcE, Ean13, Ean8, Code39, Itf, Codabar, Code93, Code128, Gs1Code128}
+use Rattle.escpos_command.specs.Barcodes.{barcode, barcode_mode, is_barcode, is_content, has_form, has_length, is_upce_first, allows, all_from, is_digit, is_code39, is_codabar, is_codabar_end, is_code_set}
 use Rattle.escpos_command.specs.CommandTable.{Spells, sent_length, sent_suffix}
-use Rattle.escpos_command.specs.Tree.{leaf, dead, node, walk, passing, branch, none, plain_byte, plain_content, codabar_content, content_of, form_b, barcodes}
+use Rattle.escpos_command.specs.Tree.{leaf, dead, node, walk, passing, branch, none, plain_byte, plain_content, upce_more, upce_content, codabar_content, content_of, form_b, barcodes}
 use Rattle.escpos_command.proofs.Walks.{Good}
-use Rattle.escpos_command.proofs.Combinators.{good_passing, good_branch, good_counted, good_closed, good_stopped, walk-counted, walk-closed, walk-stopped, live_counted, live_stopped, all_from_all, and_left, and_right, both, at_row}
+use Rattle.escpos_command.proofs.Combinators.{good_passing, good_branch, good_counted, good_closed, good_stopped, walk-counted, walk-closed, walk-stopped, live_counted, live_closed, live_stopped, all_from_all, and_left, and_right, both, at_row}
 
 -- ## Form B
 
@@ -30,6 +30,12 @@ either false f g x y h k = (y, k)
 -- Some byte may stand at each place.
 some_allowed : (s : Symbology) (n place : ℕ) → (b : ℕ) × (allows s n place b ≡ true)
 some_allowed UpcA n place = (0x30, refl)
+some_allowed UpcE n place = (0x30, upce_zero (place == 0) (n == 6))
+  where
+    upce_zero : (s t : Bool) → cond s (cond t (is_digit 0x30) (0x30 == 0x30)) (is_digit 0x30) ≡ true
+    upce_zero true true = refl
+    upce_zero true false = refl
+    upce_zero false t = refl
 some_allowed Ean13 n place = (0x30, refl)
 some_allowed Ean8 n place = (0x30, refl)
 some_allowed Code39 n place = (0x30, refl)
@@ -38,6 +44,8 @@ some_allowed Codabar n place = either (place == 0 || place + 1 == n) is_codabar_
 some_allowed Code128 n place =
     let later = either (place == 1) is_code_set (λ b. nat_lt b 0x80) 0x41 0x00 refl refl in
     either (place == 0) (λ b. b == 0x7B) (λ b. cond (place == 1) (is_code_set b) (nat_lt b 0x80)) 0x7B later.0 refl later.1
+some_allowed Code93 n place = (0x30, refl)
+some_allowed Gs1Code128 n place = (0x30, refl)
 
 spelled_b : (s : Symbology) (n : ℕ) (xs : List ℕ) → (m : ℕ) → m ≡ barcode_mode B s → has_length s n ≡ true → length xs ≡ n → all_from 0 (allows s n) xs ≡ true
     → Spells (kind.Bars (barcode B s xs)) (GS ∷ 0x6B ∷ m ∷ n ∷ xs)
@@ -95,7 +103,56 @@ good_plain : (s : Symbology) (most m : ℕ) → m ≡ barcode_mode A s → Plain
 good_plain s most m mode plain =
     good_closed most (GS ∷ 0x6B ∷ m ∷ []) (plain_byte s) (λ ys. has_length s (length ys)) (λ ys. kind.Bars (barcode A s ys)) [] plain.digit
     (λ xs long. subst (λ v. has_length s v ≡ true) (sym long) plain.full)
-    (λ xs all h. spelled_a s xs m mode plain.form (both _ _ h (plain.same (length xs) xs ∙ all)))
+    (λ xs few all h. spelled_a s xs m mode plain.form (both _ _ h (plain.same (length xs) xs ∙ all)))
+
+-- ## UPC-E
+
+-- A content of six digits, or of more with 0 at its begin.
+upce_few : (n first : ℕ) → has_length UpcE n ≡ true → is_upce_first n first ≡ true → n ≤ upce_more first + 1
+upce_few n first h k = grind (arith, nat_tests)
+
+upce_digit : (n first : ℕ) → is_upce_first n first ≡ true → is_digit first ≡ true
+upce_digit n first h = grind (arith, nat_tests)
+
+upce_later : (n place : ℕ) (xs : List ℕ) → 0 < place → all_from place (allows UpcE n) xs ≡ list_all is_digit xs
+upce_later n place [] h = refl
+upce_later n place (x ∷ xs) h =
+    let later : (place == 0) ≡ false = grind (arith, nat_tests) in
+    ap (λ v. cond v (is_upce_first n x) (is_digit x) && all_from (place + 1) (allows UpcE n) xs) later
+    ∙ ap (λ v. is_digit x && v) (upce_later n (place + 1) xs (omega arith))
+
+leads_upce : (xs : List ℕ) → is_content UpcE xs ≡ true → walk upce_content (xs ++ 0 ∷ []) ≡ leaf (kind.Bars (barcode A UpcE xs))
+leads_upce [] h = let clash : false ≡ true = h in absurd cc
+leads_upce (first ∷ more) h =
+    let n = length (first ∷ more) in
+    let long = and_left (has_length UpcE n) (all_from 0 (allows UpcE n) (first ∷ more)) h in
+    let all = and_right (has_length UpcE n) (all_from 0 (allows UpcE n) (first ∷ more)) h in
+    let starts = and_left (is_upce_first n first) (all_from 1 (allows UpcE n) more) all in
+    let digits = sym (upce_later n 1 more (omega arith)) ∙ and_right (is_upce_first n first) (all_from 1 (allows UpcE n) more) all in
+    let few = upce_few n first long starts in
+    ap (λ v. walk (cond v (plain_content UpcE (upce_more first) (first ∷ [])) dead) (more ++ 0 ∷ [])) (upce_digit n first starts)
+    ∙ walk-closed (upce_more first) is_digit (λ ys. has_length UpcE (length ys)) (λ ys. kind.Bars (barcode A UpcE ys)) (first ∷ []) more refl (omega arith) digits long
+
+upce_full : (n first : ℕ) → n ≡ upce_more first → has_length UpcE (n + 1) ≡ true
+upce_full n first h = grind (arith, nat_tests)
+
+upce_starts : (n first : ℕ) → is_digit first ≡ true → n ≤ upce_more first → has_length UpcE (n + 1) ≡ true → is_upce_first (n + 1) first ≡ true
+upce_starts n first h few long = grind (arith, nat_tests)
+
+upce_is_content : (first : ℕ) (xs : List ℕ) → is_digit first ≡ true → length xs ≤ upce_more first → list_all is_digit xs ≡ true → has_length UpcE (length (first ∷ xs)) ≡ true
+    → is_content UpcE (first ∷ xs) ≡ true
+upce_is_content first xs digit few all long =
+    let starts = upce_starts (length xs) first digit few (subst (λ v. has_length UpcE v ≡ true) (sym (add-one (length xs))) long) in
+    both _ _ long
+    (both _ _ (subst (λ v. is_upce_first v first ≡ true) (add-one (length xs)) starts) (upce_later (length (first ∷ xs)) 1 xs (omega arith) ∙ all))
+
+good_upce : Good (GS ∷ 0x6B ∷ 1 ∷ []) upce_content
+good_upce =
+    good_passing (GS ∷ 0x6B ∷ 1 ∷ []) is_digit (λ first. plain_content UpcE (upce_more first) (first ∷ [])) 0x30 refl
+    (live_closed 11 is_digit (λ ys. has_length UpcE (length ys)) (λ ys. kind.Bars (barcode A UpcE ys)) (0x30 ∷ [])) (λ first digit.
+    good_closed (upce_more first) (GS ∷ 0x6B ∷ 1 ∷ first ∷ []) is_digit (λ ys. has_length UpcE (length ys)) (λ ys. kind.Bars (barcode A UpcE ys)) (first ∷ []) refl
+    (λ xs long. subst (λ v. has_length UpcE v ≡ true) (add-one (length xs)) (upce_full (length xs) first long))
+    (λ xs few all long. spelled_a UpcE (first ∷ xs) 1 refl refl (upce_is_content first xs digit few all long)))
 
 -- ## CODABAR
 
@@ -215,21 +272,27 @@ good_codabar =
 leads_form_a : (s : Symbology) (xs : List ℕ) → has_form A s ≡ true → is_content s xs ≡ true
     → walk (branch barcodes none (barcode_mode A s)) (xs ++ 0 ∷ []) ≡ leaf (kind.Bars (barcode A s xs))
 leads_form_a UpcA xs form h = leads_plain UpcA 12 upc_a xs h
+leads_form_a UpcE xs form h = leads_upce xs h
 leads_form_a Ean13 xs form h = leads_plain Ean13 13 ean13 xs h
 leads_form_a Ean8 xs form h = leads_plain Ean8 8 ean8 xs h
 leads_form_a Code39 xs form h = leads_plain Code39 255 code39 xs h
 leads_form_a Itf xs form h = leads_plain Itf 254 itf xs h
 leads_form_a Codabar xs form h = leads_codabar xs h
+leads_form_a Code93 xs form h = absurd cc
 leads_form_a Code128 xs form h = absurd cc
+leads_form_a Gs1Code128 xs form h = absurd cc
 
 form_b_there : (s : Symbology) → branch barcodes none (barcode_mode B s) ≡ form_b s
 form_b_there UpcA = refl
+form_b_there UpcE = refl
 form_b_there Ean13 = refl
 form_b_there Ean8 = refl
 form_b_there Code39 = refl
 form_b_there Itf = refl
 form_b_there Codabar = refl
+form_b_there Code93 = refl
 form_b_there Code128 = refl
+form_b_there Gs1Code128 = refl
 
 -- The bytes of a barcode after GS k.
 abbrev pub after_k : Form → Symbology → List ℕ → List ℕ
@@ -244,26 +307,44 @@ good_barcodes =
     good_branch (GS ∷ 0x6B ∷ []) barcodes none (
       good_plain UpcA 12 0 refl upc_a,
       (
-        good_plain Ean13 13 2 refl ean13,
+        good_upce,
         (
-          good_plain Ean8 8 3 refl ean8,
+          good_plain Ean13 13 2 refl ean13,
           (
-            good_plain Code39 255 4 refl code39,
+            good_plain Ean8 8 3 refl ean8,
             (
-              good_plain Itf 254 5 refl itf,
+              good_plain Code39 255 4 refl code39,
               (
-                good_codabar,
+                good_plain Itf 254 5 refl itf,
                 (
-                  good_form_b UpcA 65 11 refl refl,
+                  good_codabar,
                   (
-                    good_form_b Ean13 67 12 refl refl,
+                    good_form_b UpcA 65 11 refl refl,
                     (
-                      good_form_b Ean8 68 7 refl refl,
+                      good_form_b UpcE 66 6 refl refl,
                       (
-                        good_form_b Code39 69 1 refl refl,
+                        good_form_b Ean13 67 12 refl refl,
                         (
-                          good_form_b Itf 70 2 refl refl,
-                          (good_form_b Codabar 71 2 refl refl, (good_form_b Code128 73 2 refl refl, tt)),
+                          good_form_b Ean8 68 7 refl refl,
+                          (
+                            good_form_b Code39 69 1 refl refl,
+                            (
+                              good_form_b Itf 70 2 refl refl,
+                              (
+                                good_form_b Codabar 71 2 refl refl,
+                                (
+                                  good_form_b Code93 72 1 refl refl,
+                                  (
+                                    good_form_b Code128 73 2 refl refl,
+                                    (
+                                      good_form_b Gs1Code128 74 2 refl refl,
+                                      tt,
+                                    ),
+                                  ),
+                                ),
+                              ),
+                            ),
+                          ),
                         ),
                       ),
                     ),

@@ -115,7 +115,7 @@ passes_no_zero test zero h k = let clash : true ≡ false = sym k ∙ h in absur
 passes_no_zero test (suc b) h k = grind (arith, nat_tests)
 
 -- Bytes that each pass, and then 00.
-live_closed : (n : ℕ) (test : ℕ → Bool) (whole : List ℕ → Bool) (make : List ℕ → Command) (read : List ℕ) → IsLive (closed n test whole make read)
+pub live_closed : (n : ℕ) (test : ℕ → Bool) (whole : List ℕ → Bool) (make : List ℕ → Command) (read : List ℕ) → IsLive (closed n test whole make read)
 unfolding closed
 live_closed zero test whole make read = tt
 live_closed (suc n) test whole make read = tt
@@ -129,26 +129,26 @@ good_ending p whole make read b spells e =
 pub good_closed : (n : ℕ) (p : List ℕ) (test : ℕ → Bool) (whole : List ℕ → Bool) (make : List ℕ → Command) (read : List ℕ)
     → test 0x30 ≡ true
     → ((xs : List ℕ) → length xs ≡ n → whole (read ++ xs) ≡ true)
-    → ((xs : List ℕ) → list_all test xs ≡ true → whole (read ++ xs) ≡ true → Spells (make (read ++ xs)) (p ++ (xs ++ 0 ∷ [])))
+    → ((xs : List ℕ) → length xs ≤ n → list_all test xs ≡ true → whole (read ++ xs) ≡ true → Spells (make (read ++ xs)) (p ++ (xs ++ 0 ∷ [])))
     → Good p (closed n test whole make read)
 unfolding closed
 good_closed zero p test whole make read digit full spells = (
   (0, live_choice (leaf (make read)) dead (whole read) (subst (λ v. whole v ≡ true) (append-nil read) (full [] refl)) tt),
   λ b. good_choice (p ++ b ∷ []) (ending whole make read) dead (b == 0)
-      (good_ending p whole make read b (λ h. subst (λ v. Spells (make v) (p ++ 0 ∷ [])) (append-nil read) (spells [] refl (subst (λ v. whole v ≡ true) (sym (append-nil read)) h))))
+      (good_ending p whole make read b (λ h. subst (λ v. Spells (make v) (p ++ 0 ∷ [])) (append-nil read) (spells [] (omega arith) refl (subst (λ v. whole v ≡ true) (sym (append-nil read)) h))))
       (λ _. tt),
 )
 good_closed (suc n) p test whole make read digit full spells = (
   (0x30, live_choice (closed n test whole make (read ++ 0x30 ∷ [])) dead (test 0x30) digit (live_closed n test whole make (read ++ 0x30 ∷ []))),
   λ b. good_choice (p ++ b ∷ []) (ending whole make read) (cond (test b) (closed n test whole make (read ++ b ∷ [])) dead) (b == 0)
-      (good_ending p whole make read b (λ h. subst (λ v. Spells (make v) (p ++ 0 ∷ [])) (append-nil read) (spells [] refl (subst (λ v. whole v ≡ true) (sym (append-nil read)) h))))
+      (good_ending p whole make read b (λ h. subst (λ v. Spells (make v) (p ++ 0 ∷ [])) (append-nil read) (spells [] (omega arith) refl (subst (λ v. whole v ≡ true) (sym (append-nil read)) h))))
       (λ _. good_choice (p ++ b ∷ []) (closed n test whole make (read ++ b ∷ [])) dead (test b)
       (λ passes. good_closed n (p ++ b ∷ []) test whole make (read ++ b ∷ []) digit
       (λ xs long. subst (λ v. whole v ≡ true) (sym (append_assoc read (b ∷ []) xs)) (full (b ∷ xs) (ap suc long)))
-      (λ xs all h.
+      (λ xs few all h.
       subst (λ v. Spells (make v) ((p ++ b ∷ []) ++ (xs ++ 0 ∷ []))) (sym (append_assoc read (b ∷ []) xs))
       (subst (λ v. Spells (make (read ++ b ∷ xs)) v) (sym (append_assoc p (b ∷ []) (xs ++ 0 ∷ [])))
-      (spells (b ∷ xs) (both _ _ passes all) (subst (λ v. whole v ≡ true) (append_assoc read (b ∷ []) xs) h)))))
+      (spells (b ∷ xs) (omega arith) (both _ _ passes all) (subst (λ v. whole v ≡ true) (append_assoc read (b ∷ []) xs) h)))))
       (λ _. tt)),
 )
 

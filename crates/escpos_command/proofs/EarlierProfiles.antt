@@ -1,27 +1,33 @@
 -- The laws of the earlier profiles, for every number: where the spelling of a command that came later parts from those of the
 -- commands that the profile had. A setting adds nothing here, and a form of command a line to `formed`, `witnesses` and `known_to`.
 use Rattle.std.proofs.Common.{◌≡◌, ◌<◌, ◌⊎◌, inl, inr, ℕ, zero, suc, ◌+◌, List, [], ◌∷◌, ◌++◌, length, refl, sym, ◌∙◌, ap, subst, append_assoc, append-nil, arith, Bool, true, false, cond, IsTrue, Option, None, Some}
-use Rattle.std.specs.Prelude.{◌==◌, ◌&&◌, ◌||◌, nat_le, nat_lt, option_to_list}
+use Rattle.std.specs.Prelude.{◌==◌, ◌&&◌, ◌||◌, nat_le, nat_lt, option_to_list, replicate}
 use Rattle.std.specs.List.{list_all, list_any, AllByRecursion}
 use Rattle.std.proofs.lemmas.Bool.Decides.{nat_tests}
-use Rattle.escpos_command.specs.declared.bytes.TheConstants.{LF, CR, DLE, ESC, GS, EOT}
+use Rattle.escpos_command.specs.declared.bytes.TheConstants.{HT, LF, CR, DLE, ESC, GS, EOT}
 use Rattle.escpos_command.specs.declared.command.Command.{Command}
 use Rattle.escpos_command.specs.declared.command.Command.TheVariants as kind
-use Rattle.escpos_command.specs.declared.bars.Form.TheVariants.{B}
-use Rattle.escpos_command.specs.declared.bars.Symbology.TheVariants.{Code39}
+use Rattle.escpos_command.specs.declared.bars.Form.{Form}
+use Rattle.escpos_command.specs.declared.bars.Form.TheVariants.{A, B}
+use Rattle.escpos_command.specs.declared.bars.Symbology.{Symbology}
+use Rattle.escpos_command.specs.declared.bars.Symbology.TheVariants.{UpcA, UpcE, Ean13, Ean8, Code39, Itf, Codabar, Code93, Code128, Gs1Code128}
 use Rattle.escpos_command.specs.declared.setting.Row.{Row}
 use Rattle.escpos_command.specs.declared.setting.SettingKind.{SettingKind}
-use Rattle.escpos_command.specs.Barcodes.{barcode}
+use Rattle.escpos_command.specs.Barcodes.{barcode, barcode_mode, has_form, is_barcode, is_content}
 use Rattle.escpos_command.specs.CommandTable.{Spells, IsCommand, row}
 use Rattle.escpos_command.specs.Grammar.{Viable}
 use Rattle.escpos_command.specs.Parameters.{is_byte, is_character, is_cut, is_feed_cut_mode, is_one_of_two}
+use Rattle.escpos_command.specs.Positions.{position_prefix, word_bytes}
+use Rattle.escpos_command.specs.declared.parameter.position.PositionKind.{PositionKind}
+use Rattle.escpos_command.specs.declared.parameter.position.PositionKind.TheVariants as at
 use Rattle.escpos_command.specs.Prefixes.{apart}
 use Rattle.escpos_command.specs.Rasters.{picture}
 use Rattle.escpos_command.specs.SettingTable.{table, number, row_at, row_for, row_prefix}
-use Rattle.escpos_command.specs.EarlierProfiles.{cut_since, prefix_of, prefix_since, since, in_profile, IsNew, prefix, rows}
+use Rattle.escpos_command.specs.EarlierProfiles.{cut_since, symbology_since, prefix_of, prefix_since, since, in_profile, IsNew, prefix, rows}
 use Rattle.escpos_command.specs.Profiles.{ViableIn}
 use Rattle.escpos_command.proofs.Combinators.{and_left, and_right, same_number, number_itself, at_row}
 use Rattle.escpos_command.proofs.Planting.{or_else, or_right}
+use Rattle.escpos_command.proofs.PositionTree.{spelled_position}
 use Rattle.escpos_command.proofs.Profiles.{Parts, AllPart, some_parameter, some_fits}
 use Rattle.escpos_command.proofs.SettingFacts.{is_table}
 use Rattle.escpos_command.proofs.SettingRows.{covered, own_row}
@@ -46,10 +52,20 @@ formed =
     ∷ (GS ∷ 0x28 ∷ 0x48 ∷ [], 1)
     ∷ (GS ∷ 0x28 ∷ 0x6B ∷ [], 3)
     ∷ (GS ∷ 0x61 ∷ [], 4)
-    ∷ (GS ∷ 0x6B ∷ [], 1)
     ∷ (GS ∷ 0x76 ∷ [], 1)
     ∷ (ESC ∷ 0x69 ∷ [], 4)
     ∷ (ESC ∷ 0x6D ∷ [], 4)
+    ∷ []
+
+-- Those of positions and tab stops.
+abbrev moving : Known
+moving =
+    (HT ∷ [], 4)
+    ∷ (ESC ∷ 0x24 ∷ [], 4)
+    ∷ (ESC ∷ 0x5C ∷ [], 4)
+    ∷ (GS ∷ 0x4C ∷ [], 4)
+    ∷ (GS ∷ 0x57 ∷ [], 4)
+    ∷ (ESC ∷ 0x44 ∷ [], 4)
     ∷ []
 
 abbrev of_rows : List Row → Known
@@ -67,8 +83,23 @@ abbrev of_modes : List ℕ → Known
 of_modes [] = []
 of_modes (m ∷ ms) = of_mode m ∷ of_modes ms
 
+-- Those of barcodes, each with its mode.
+abbrev of_bars : Form → Symbology → List ℕ × ℕ
+of_bars form symbology = (GS ∷ 0x6B ∷ barcode_mode form symbology ∷ [], symbology_since symbology)
+
+abbrev barcodes_a : Known
+barcodes_a = of_bars A UpcA ∷ of_bars A UpcE ∷ of_bars A Ean13 ∷ of_bars A Ean8 ∷ of_bars A Code39 ∷ of_bars A Itf ∷ of_bars A Codabar ∷ []
+
+abbrev barcodes_b : Known
+barcodes_b =
+    of_bars B UpcA ∷ of_bars B UpcE ∷ of_bars B Ean13 ∷ of_bars B Ean8 ∷ of_bars B Code39 ∷ of_bars B Itf ∷ of_bars B Codabar ∷ of_bars B Code93
+    ∷ of_bars B Code128 ∷ of_bars B Gs1Code128 ∷ []
+
+abbrev barcodes : Known
+barcodes = barcodes_a ++ barcodes_b
+
 abbrev others : Known
-others = of_modes cut_modes ++ of_rows table
+others = moving ++ (of_modes cut_modes ++ (barcodes ++ of_rows table))
 
 unfoldable pub known : Known
 known = formed ++ others
@@ -143,6 +174,7 @@ not_low b more h k = let low : nat_lt b 0x20 ≡ true = k in let clash : true �
 -- ## Commands and their prefixes
 
 spelled_on : (c : Command) → Begins (prefix_of c) (row c)
+spelled_on (kind.Position p) = (word_bytes p.1, spelled_position p.0 p.1)
 spelled_on (kind.Set s) = (option_to_list s.1, spelled_setting s.0 s.1)
 spelled_on _ = (_, refl)
 
@@ -153,7 +185,10 @@ row_known (r ∷ rs) (suc i) h = inr (row_known rs i (omega arith))
 
 setting_known : (which : SettingKind) → Has (row_prefix (row_for table which), (row_for table which).since) known
 unfolding known
-setting_known which = has_later _ formed others (has_later _ (of_modes cut_modes) (of_rows table) (row_known table (number which) (covered table is_table which)))
+setting_known which =
+    has_later _ formed others
+    (has_later _ moving (of_modes cut_modes ++ (barcodes ++ of_rows table))
+    (has_later _ (of_modes cut_modes) (barcodes ++ of_rows table) (has_later _ barcodes (of_rows table) (row_known table (number which) (covered table is_table which)))))
 
 is_mode : (m : ℕ) (feed : Option ℕ) → is_cut m feed ≡ true → list_any (λ x. m == x) cut_modes ≡ true
 is_mode m None h = grind (arith, nat_tests, h)
@@ -166,6 +201,44 @@ mode_known (x ∷ ms) m h = by_test (m == x) refl (λ k. mode_known ms m k)
     by_test : (v : Bool) → (m == x) ≡ v → (list_any (λ y. m == y) ms ≡ true → Has (of_mode m) (of_modes ms)) → Has (of_mode m) (of_modes (x ∷ ms))
     by_test true e further = inl (ap of_mode (sym (same_number m x e)))
     by_test false e further = inr (further (or_right (m == x) (list_any (λ y. m == y) ms) e h))
+
+moving_known : (q : List ℕ × ℕ) → Has q moving → Has q known
+unfolding known
+moving_known q h = has_later q formed others (has_earlier q moving (of_modes cut_modes ++ (barcodes ++ of_rows table)) h)
+
+position_known : (which : PositionKind) → Has (position_prefix which, 4) known
+position_known at.Absolute = moving_known _ (inr (inl refl))
+position_known at.Relative = moving_known _ (inr (inr (inl refl)))
+position_known at.LeftMargin = moving_known _ (inr (inr (inr (inl refl))))
+position_known at.AreaWidth = moving_known _ (inr (inr (inr (inr (inl refl)))))
+
+known_a : (s : Symbology) → has_form A s ≡ true → Has (of_bars A s) barcodes_a
+known_a UpcA h = inl refl
+known_a UpcE h = inr (inl refl)
+known_a Ean13 h = inr (inr (inl refl))
+known_a Ean8 h = inr (inr (inr (inl refl)))
+known_a Code39 h = inr (inr (inr (inr (inl refl))))
+known_a Itf h = inr (inr (inr (inr (inr (inl refl)))))
+known_a Codabar h = inr (inr (inr (inr (inr (inr (inl refl))))))
+known_a Code93 h = absurd cc
+known_a Code128 h = absurd cc
+known_a Gs1Code128 h = absurd cc
+
+known_b : (s : Symbology) → Has (of_bars B s) barcodes_b
+known_b UpcA = inl refl
+known_b UpcE = inr (inl refl)
+known_b Ean13 = inr (inr (inl refl))
+known_b Ean8 = inr (inr (inr (inl refl)))
+known_b Code39 = inr (inr (inr (inr (inl refl))))
+known_b Itf = inr (inr (inr (inr (inr (inl refl)))))
+known_b Codabar = inr (inr (inr (inr (inr (inr (inl refl))))))
+known_b Code93 = inr (inr (inr (inr (inr (inr (inr (inl refl)))))))
+known_b Code128 = inr (inr (inr (inr (inr (inr (inr (inr (inl refl))))))))
+known_b Gs1Code128 = inr (inr (inr (inr (inr (inr (inr (inr (inr (inl refl)))))))))
+
+bars_known : (f : Form) (s : Symbology) → has_form f s ≡ true → Has (of_bars f s) barcodes
+bars_known A s h = has_earlier _ barcodes_a barcodes_b (known_a s h)
+bars_known B s h = has_later _ barcodes_a barcodes_b (known_b s)
 
 -- The command is a character, or its prefix is known.
 known_to : (c : Command) → IsCommand c → Has (prefix_of c, prefix_since c) known ⊎ ((b : ℕ) × (prefix_of c ≡ b ∷ []) × (is_character b ≡ true) × (prefix_since c ≡ 1))
@@ -185,15 +258,23 @@ known_to (kind.QrSize n) h = inl (has_earlier _ formed others (inr (inr (inr (in
 known_to (kind.QrLevel n) h = inl (has_earlier _ formed others (inr (inr (inr (inr (inr (inr (inr (inr (inl refl))))))))))
 known_to (kind.QrStore stored) h = inl (has_earlier _ formed others (inr (inr (inr (inr (inr (inr (inr (inr (inl refl))))))))))
 known_to kind.QrPrint h = inl (has_earlier _ formed others (inr (inr (inr (inr (inr (inr (inr (inr (inl refl))))))))))
-known_to (kind.Cut c) h = inl (has_later _ formed others (has_earlier _ (of_modes cut_modes) (of_rows table) (mode_known cut_modes c.0 (is_mode c.0 c.1 h))))
+known_to kind.Tab h = inl (moving_known _ (inl refl))
+known_to (kind.Position p) h = inl (position_known p.0)
+known_to (kind.TabStops columns) h = inl (moving_known _ (inr (inr (inr (inr (inr (inl refl)))))))
+known_to (kind.Cut c) h =
+    inl (has_later _ formed others
+    (has_later _ moving (of_modes cut_modes ++ (barcodes ++ of_rows table))
+    (has_earlier _ (of_modes cut_modes) (barcodes ++ of_rows table) (mode_known cut_modes c.0 (is_mode c.0 c.1 h)))))
 known_to (kind.AutomaticStatus n) h = inl (has_earlier _ formed others (inr (inr (inr (inr (inr (inr (inr (inr (inr (inl refl)))))))))))
-known_to (kind.Bars bars) h = inl (has_earlier _ formed others (inr (inr (inr (inr (inr (inr (inr (inr (inr (inr (inl refl))))))))))))
-known_to (kind.Raster raster) h = inl (has_earlier _ formed others (inr (inr (inr (inr (inr (inr (inr (inr (inr (inr (inr (inl refl)))))))))))))
+known_to (kind.Bars bars) h =
+    inl (has_later _ formed others (has_later _ moving (of_modes cut_modes ++ (barcodes ++ of_rows table)) (has_later _ (of_modes cut_modes) (barcodes ++ of_rows table)
+    (has_earlier _ barcodes (of_rows table) (bars_known bars.form bars.symbology (and_left (has_form bars.form bars.symbology) (is_content bars.symbology bars.content) h))))))
+known_to (kind.Raster raster) h = inl (has_earlier _ formed others (inr (inr (inr (inr (inr (inr (inr (inr (inr (inr (inl refl))))))))))))
 known_to (kind.OldCut b) h = inl (has_earlier _ formed others (old_cut_known (b == 0x69) (b == 0x6D) refl refl h))
   where
     old_cut_known : (s t : Bool) → (b == 0x69) ≡ s → (b == 0x6D) ≡ t → (s || t) ≡ true → Has (ESC ∷ b ∷ [], 4) formed
-    old_cut_known true t e f o = subst (λ x. Has (ESC ∷ x ∷ [], 4) formed) (sym (same_number b 0x69 e)) (inr (inr (inr (inr (inr (inr (inr (inr (inr (inr (inr (inr (inl refl)))))))))))))
-    old_cut_known false true e f o = subst (λ x. Has (ESC ∷ x ∷ [], 4) formed) (sym (same_number b 0x6D f)) (inr (inr (inr (inr (inr (inr (inr (inr (inr (inr (inr (inr (inr (inl refl))))))))))))))
+    old_cut_known true t e f o = subst (λ x. Has (ESC ∷ x ∷ [], 4) formed) (sym (same_number b 0x69 e)) (inr (inr (inr (inr (inr (inr (inr (inr (inr (inr (inr (inl refl))))))))))))
+    old_cut_known false true e f o = subst (λ x. Has (ESC ∷ x ∷ [], 4) formed) (sym (same_number b 0x6D f)) (inr (inr (inr (inr (inr (inr (inr (inr (inr (inr (inr (inr (inl refl)))))))))))))
     old_cut_known false false e f o = absurd cc
 
 -- Each prefix that is known has a command, which came with it.
@@ -222,15 +303,12 @@ witnesses = (
                   (
                     (kind.AutomaticStatus 0, refl, refl, refl),
                     (
-                      (kind.Bars (barcode B Code39 (0x41 ∷ [])), refl, refl, refl),
+                      (kind.Raster (picture 0 1 1 (0 ∷ [])), refl, refl, refl),
                       (
-                        (kind.Raster (picture 0 1 1 (0 ∷ [])), refl, refl, refl),
+                        (kind.OldCut 0x69, refl, refl, refl),
                         (
-                          (kind.OldCut 0x69, refl, refl, refl),
-                          (
-                            (kind.OldCut 0x6D, refl, refl, refl),
-                            tt,
-                          ),
+                          (kind.OldCut 0x6D, refl, refl, refl),
+                          tt,
                         ),
                       ),
                     ),
@@ -238,6 +316,27 @@ witnesses = (
                 ),
               ),
             ),
+          ),
+        ),
+      ),
+    ),
+  ),
+)
+
+moving_witnesses : AllByRecursion Witness moving
+moving_witnesses = (
+  (kind.Tab, refl, refl, refl),
+  (
+    (kind.Position (at.Absolute, 0), refl, refl, refl),
+    (
+      (kind.Position (at.Relative, 0), refl, refl, refl),
+      (
+        (kind.Position (at.LeftMargin, 0), refl, refl, refl),
+        (
+          (kind.Position (at.AreaWidth, 0), refl, refl, refl),
+          (
+            (kind.TabStops [], refl, refl, refl),
+            tt,
           ),
         ),
       ),
@@ -285,6 +384,67 @@ mode_witnesses = (
   ),
 )
 
+-- A barcode with this content.
+with_content : (f : Form) (s : Symbology) (content : List ℕ) → is_barcode (barcode f s content) ≡ true → Witness (of_bars f s)
+with_content f s content h = (kind.Bars (barcode f s content), h, refl, refl)
+
+abbrev zeros : ℕ → List ℕ
+zeros n = replicate n 0x30
+
+bars_witnesses : AllByRecursion Witness barcodes
+bars_witnesses = (
+  with_content A UpcA (zeros 11) refl,
+  (
+    with_content A UpcE (zeros 6) refl,
+    (
+      with_content A Ean13 (zeros 12) refl,
+      (
+        with_content A Ean8 (zeros 7) refl,
+        (
+          with_content A Code39 (zeros 1) refl,
+          (
+            with_content A Itf (zeros 2) refl,
+            (
+              with_content A Codabar (0x41 ∷ 0x41 ∷ []) refl,
+              (
+                with_content B UpcA (zeros 11) refl,
+                (
+                  with_content B UpcE (zeros 6) refl,
+                  (
+                    with_content B Ean13 (zeros 12) refl,
+                    (
+                      with_content B Ean8 (zeros 7) refl,
+                      (
+                        with_content B Code39 (zeros 1) refl,
+                        (
+                          with_content B Itf (zeros 2) refl,
+                          (
+                            with_content B Codabar (0x41 ∷ 0x41 ∷ []) refl,
+                            (
+                              with_content B Code93 (zeros 1) refl,
+                              (
+                                with_content B Code128 (0x7B ∷ 0x41 ∷ []) refl,
+                                (
+                                  with_content B Gs1Code128 (zeros 2) refl,
+                                  tt,
+                                ),
+                              ),
+                            ),
+                          ),
+                        ),
+                      ),
+                    ),
+                  ),
+                ),
+              ),
+            ),
+          ),
+        ),
+      ),
+    ),
+  ),
+)
+
 row_witness : (i : ℕ) → i < length table → Witness (row_prefix (row_at table i), (row_at table i).since)
 row_witness i h =
     let r = row_at table i in
@@ -317,9 +477,15 @@ witness : (q : List ℕ × ℕ) → Has q known → Witness q
 unfolding known
 witness q h = elim (in_either q formed others h) [
   | inl k ↦ formed_witness formed q witnesses k
-  | inr k ↦ elim (in_either q (of_modes cut_modes) (of_rows table) k) [
-    | inl l ↦ formed_witness (of_modes cut_modes) q mode_witnesses l
-    | inr l ↦ of_rows_witness table q row_witness l
+  | inr k ↦ elim (in_either q moving (of_modes cut_modes ++ (barcodes ++ of_rows table)) k) [
+    | inl l ↦ formed_witness moving q moving_witnesses l
+    | inr l ↦ elim (in_either q (of_modes cut_modes) (barcodes ++ of_rows table) l) [
+      | inl m ↦ formed_witness (of_modes cut_modes) q mode_witnesses m
+      | inr m ↦ elim (in_either q barcodes (of_rows table) m) [
+        | inl n ↦ formed_witness barcodes q bars_witnesses n
+        | inr n ↦ of_rows_witness table q row_witness n
+      ]
+    ]
   ]
 ]
 
@@ -415,6 +581,7 @@ prefix_first (kind.Raster raster) = by_height (nat_le raster.height 2047)
     by_height false = refl
 prefix_first (kind.Set s) = grind (arith, nat_tests)
 prefix_first (kind.Cut cut) = grind (arith, nat_tests)
+prefix_first (kind.Bars bars) = grind (arith, nat_tests)
 prefix_first _ = refl
 
 not_both : (s t n : ℕ) → nat_le s t ≡ true → nat_le t n ≡ true → nat_lt n s ≡ true → ⊥
@@ -540,6 +707,7 @@ pub parts : (n : ℕ) → nat_le 1 n ≡ true → AllPart (in_profile n) (IsNew 
 parts n h (kind.Raster r) k is = tall_parts n r.scale r.width r.height r.dots (nat_le r.height 2047) h refl k is
 parts n h (kind.Set s) k is = parts_at_prefix n h (kind.Set s) is (came_later (row_for table s.0).since n k)
 parts n h (kind.Cut cut) k is = parts_at_prefix n h (kind.Cut cut) is (came_later (cut_since cut.0) n k)
+parts n h (kind.Bars bars) k is = parts_at_prefix n h (kind.Bars bars) is (came_later (symbology_since bars.symbology) n k)
 parts n h c k is = parts_at_prefix n h c is (came_later (prefix_since c) n k)
 
 -- What is new is taken now, and wasn't.

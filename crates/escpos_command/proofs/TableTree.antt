@@ -4,18 +4,22 @@ use Rattle.std.proofs.Common.{◌≡◌, ◌<◌, ℕ, List, [], ◌∷◌, ◌+
 use Rattle.std.specs.Prelude.{◌==◌, ◌&&◌, ◌||◌, not, nat_lt, Option, None, Some, option_to_list}
 use Rattle.std.specs.List.{list_all, AllByRecursion}
 use Rattle.std.proofs.lemmas.Bool.Decides.{nat_tests}
-use Rattle.escpos_command.specs.declared.bytes.TheConstants.{LF, CR, DLE, ESC, GS, EOT}
+use Rattle.escpos_command.specs.declared.bytes.TheConstants.{HT, LF, CR, DLE, ESC, GS, EOT}
 use Rattle.escpos_command.specs.declared.command.Command.{Command}
 use Rattle.escpos_command.specs.declared.command.Command.TheVariants as kind
 use Rattle.escpos_command.specs.declared.setting.Row.{Row}
 use Rattle.escpos_command.specs.declared.setting.SettingKind.{SettingKind}
-use Rattle.escpos_command.specs.Parameters.{is_character, is_one_of_two, is_status_kind, is_feed_cut_mode, is_byte, is_cut, is_pulse, is_mark_byte, is_mark_id, is_qr_size, is_qr_level}
+use Rattle.escpos_command.specs.Parameters.{is_character, is_one_of_two, is_status_kind, is_feed_cut_mode, is_byte, is_cut, is_word, is_pulse, is_mark_byte, is_mark_id, is_qr_size, is_qr_level}
 use Rattle.escpos_command.specs.SettingTable.{table, fits, row_prefix, number, blank, row_at, row_for, is_setting}
 use Rattle.escpos_command.specs.CommandTable.{Spells, IsCommand, row}
+use Rattle.escpos_command.specs.declared.parameter.position.PositionKind.{PositionKind}
+use Rattle.escpos_command.specs.declared.parameter.position.PositionKind.TheVariants as at
+use Rattle.escpos_command.specs.Positions.{position_prefix, word_bytes}
 use Rattle.escpos_command.specs.Prefixes.{Forms, apart, part_from, has_form, tree_after, rows_part_from}
-use Rattle.escpos_command.specs.Tree.{Tree, leaf, dead, node, walk, planted, all_planted, one, passing, character, cut, mark, pulse, forms, setting_tree, settings, grammar, counted}
+use Rattle.escpos_command.specs.Tree.{Tree, leaf, dead, node, walk, planted, all_planted, one, passing, character, cut, mark, position, tab_stops, pulse, forms, setting_tree, settings, grammar, counted}
 use Rattle.escpos_command.proofs.BarcodeTree.{leads_barcode, good_barcodes}
 use Rattle.escpos_command.proofs.RasterTree.{leads_raster, good_raster}
+use Rattle.escpos_command.proofs.PositionTree.{leads_position, leads_stops, good_position, good_stops, live_stops, spelled_position}
 use Rattle.escpos_command.proofs.QrTree.{leads_model, leads_store, good_qr}
 use Rattle.escpos_command.proofs.Walks.{Good, IsLive, walk-nil}
 use Rattle.escpos_command.proofs.Combinators.{good_choice, good_passing, good_one, good_these, good_counted, walk-counted, walk-one, live_counted, all_from_all, and_left, and_right, both, same_number, at_row}
@@ -134,14 +138,23 @@ leads_pulse m on off h =
     ∙ ap (λ v. walk (cond v (one is_byte (λ off. kind.Pulse (m, on, off))) dead) (off ∷ [])) first
     ∙ walk-one is_byte (λ off. kind.Pulse (m, on, off)) off (and_right (is_one_of_two m && is_byte on) (is_byte off) h)
 
+leads_place : (which : PositionKind) (n : ℕ) → is_word n ≡ true → walk grammar (position_prefix which ++ word_bytes n) ≡ leaf (kind.Position (which, n))
+leads_place at.Absolute n h = form (ESC ∷ 0x24 ∷ []) (word_bytes n) refl ∙ leads_position at.Absolute n h
+leads_place at.Relative n h = form (ESC ∷ 0x5C ∷ []) (word_bytes n) refl ∙ leads_position at.Relative n h
+leads_place at.LeftMargin n h = form (GS ∷ 0x4C ∷ []) (word_bytes n) refl ∙ leads_position at.LeftMargin n h
+leads_place at.AreaWidth n h = form (GS ∷ 0x57 ∷ []) (word_bytes n) refl ∙ leads_position at.AreaWidth n h
+
 pub leads : (c : Command) → IsCommand c → walk grammar (row c) ≡ leaf c
 leads (kind.Char b) h = leads_character b h
+leads kind.Tab h = form (HT ∷ []) [] refl
 leads kind.LineFeed h = form (LF ∷ []) [] refl
 leads kind.Return h = form (CR ∷ []) [] refl
 leads kind.Init h = form (ESC ∷ 0x40 ∷ []) [] refl
 leads (kind.Set s) h = leads_setting s.0 s.1 h
 leads (kind.FeedLines n) h = form (ESC ∷ 0x64 ∷ []) (n ∷ []) refl ∙ walk-one is_byte kind.FeedLines n h
 leads (kind.FeedUnits n) h = form (ESC ∷ 0x4A ∷ []) (n ∷ []) refl ∙ walk-one is_byte kind.FeedUnits n h
+leads (kind.Position p) h = ap (walk grammar) (spelled_position p.0 p.1) ∙ leads_place p.0 p.1 h
+leads (kind.TabStops columns) h = form (ESC ∷ 0x44 ∷ []) _ refl ∙ leads_stops columns h
 leads (kind.Pulse p) h = form (ESC ∷ 0x70 ∷ []) (p.0 ∷ p.1 ∷ p.2 ∷ []) refl ∙ leads_pulse p.0 p.1 p.2 h
 leads (kind.Bars bars) h = form (GS ∷ 0x6B ∷ []) _ refl ∙ leads_barcode bars.form bars.symbology bars.content h
 leads (kind.Raster r) h = form (GS ∷ 0x76 ∷ []) _ refl ∙ leads_raster r.scale r.width r.height r.dots h
@@ -187,6 +200,38 @@ good_pulse =
     good_one (ESC ∷ 0x70 ∷ m ∷ on ∷ []) is_byte (λ off. kind.Pulse (m, on, off)) 0 refl
     (λ off second. at_row (kind.Pulse (m, on, off)) (both _ _ (both _ _ pin first) second))))
 
+-- Those of positions and tab stops.
+abbrev moving : Forms
+moving =
+    (HT ∷ [], leaf kind.Tab)
+    ∷ (ESC ∷ 0x24 ∷ [], position at.Absolute)
+    ∷ (ESC ∷ 0x5C ∷ [], position at.Relative)
+    ∷ (GS ∷ 0x4C ∷ [], position at.LeftMargin)
+    ∷ (GS ∷ 0x57 ∷ [], position at.AreaWidth)
+    ∷ (ESC ∷ 0x44 ∷ [], tab_stops 32 0 [])
+    ∷ []
+
+good_moving : AllByRecursion (λ f. IsLive f.1 × Good f.0 f.1) moving
+good_moving = (
+  (tt, at_row kind.Tab refl),
+  (
+    (tt, good_position at.Absolute),
+    (
+      (tt, good_position at.Relative),
+      (
+        (tt, good_position at.LeftMargin),
+        (
+          (tt, good_position at.AreaWidth),
+          (
+            (live_stops, good_stops),
+            tt,
+          ),
+        ),
+      ),
+    ),
+  ),
+)
+
 -- Each form is live and good at its prefix.
 good_forms : AllByRecursion (λ f. IsLive f.1 × Good f.0 f.1) forms
 good_forms = (
@@ -219,7 +264,7 @@ good_forms = (
                             (tt, at_row (kind.OldCut 0x69) refl),
                             (
                               (tt, at_row (kind.OldCut 0x6D) refl),
-                              tt,
+                              good_moving,
                             ),
                           ),
                         ),

@@ -9,7 +9,7 @@ use Rattle.escpos_command.specs.declared.bars.BarFault.TheVariants as fault
 use Rattle.escpos_command.specs.declared.bars.Form.{Form}
 use Rattle.escpos_command.specs.declared.bars.Form.TheVariants.{A, B}
 use Rattle.escpos_command.specs.declared.bars.Symbology.{Symbology}
-use Rattle.escpos_command.specs.declared.bars.Symbology.TheVariants.{UpcA, Ean13, Ean8, Code39, Itf, Codabar, Code128}
+use Rattle.escpos_command.specs.declared.bars.Symbology.TheVariants.{UpcA, UpcE, Ean13, Ean8, Code39, Itf, Codabar, Code93, Code128, Gs1Code128}
 
 -- The model of a barcode: its form, its symbology and its content, the bytes that it encodes.
 pub record Barcode : Type 0 where
@@ -20,25 +20,29 @@ pub record Barcode : Type 0 where
 abbrev pub barcode : Form → Symbology → List ℕ → Barcode
 barcode form symbology content = record { form = form; symbology = symbology; content = content }
 
--- The byte m of GS k is this number in form A, and 65 more in form B. The numbers 1 and 7, UPC-E and CODE93, are not in the
--- profile.
+-- The byte m of GS k is this number in form A, and 65 more in form B.
 abbrev pub symbology_number : Symbology → ℕ
 symbology_number UpcA = 0
+symbology_number UpcE = 1
 symbology_number Ean13 = 2
 symbology_number Ean8 = 3
 symbology_number Code39 = 4
 symbology_number Itf = 5
 symbology_number Codabar = 6
+symbology_number Code93 = 7
 symbology_number Code128 = 8
+symbology_number Gs1Code128 = 9
 
 abbrev pub barcode_mode : Form → Symbology → ℕ
 barcode_mode A symbology = symbology_number symbology
 barcode_mode B symbology = 65 + symbology_number symbology
 
--- Form A ends with a byte 00, so it has no CODE128, whose content may hold one.
+-- Form A ends with a byte 00, so it has none of the symbologies whose content may hold one.
 abbrev pub has_form : Form → Symbology → Bool
 has_form B symbology = true
+has_form A Code93 = false
 has_form A Code128 = false
+has_form A Gs1Code128 = false
 has_form A symbology = true
 
 -- ## Bytes
@@ -67,25 +71,35 @@ is_code_set b = nat_le 0x41 b && nat_le b 0x43
 
 -- ## Contents
 
+-- With which a content of UPC-E may begin: six digits stand without their number system, which is 0, and longer ones begin with it.
+abbrev pub is_upce_first : ℕ → ℕ → Bool
+is_upce_first n b = if n == 6 then is_digit b else b == 0x30
+
 -- A content of this symbology may have this many bytes.
 abbrev pub has_length : Symbology → ℕ → Bool
 has_length UpcA n = n == 11 || n == 12
+has_length UpcE n = n == 6 || n == 7 || n == 8 || n == 11 || n == 12
 has_length Ean13 n = n == 12 || n == 13
 has_length Ean8 n = n == 7 || n == 8
 has_length Code39 n = nat_le 1 n && nat_le n 255
 has_length Itf n = nat_le 2 n && nat_le n 254 && n % 2 == 0
 has_length Codabar n = nat_le 2 n && nat_le n 255
+has_length Code93 n = nat_le 1 n && nat_le n 255
 has_length Code128 n = nat_le 2 n && nat_le n 255
+has_length Gs1Code128 n = nat_le 2 n && nat_le n 255
 
 -- In a content of n bytes the byte b may stand at this place, counted from 0.
 abbrev pub allows : Symbology → ℕ → ℕ → ℕ → Bool
 allows UpcA n place b = is_digit b
+allows UpcE n place b = if place == 0 then is_upce_first n b else is_digit b
 allows Ean13 n place b = is_digit b
 allows Ean8 n place b = is_digit b
 allows Code39 n place b = is_code39 b
 allows Itf n place b = is_digit b
 allows Codabar n place b = if place == 0 || place + 1 == n then is_codabar_end b else is_codabar b
+allows Code93 n place b = nat_lt b 0x80
 allows Code128 n place b = if place == 0 then b == 0x7B else if place == 1 then is_code_set b else nat_lt b 0x80
+allows Gs1Code128 n place b = nat_lt b 0x80
 
 -- A test of place and byte holds for all bytes of a list whose first byte is at this place.
 abbrev pub all_from : ℕ → (ℕ → ℕ → Bool) → List ℕ → Bool

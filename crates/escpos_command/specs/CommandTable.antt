@@ -4,20 +4,21 @@
 -- The bytes are those of the ESC/POS Command Reference, with the parameters as sent in their places.
 use Rattle.std.specs.Prelude.{ℕ, ◌≡◌, ◌+◌, ◌/◌, ◌%◌, Bool, true, List, [], ◌∷◌, ◌++◌, length, IsTrue, Some, option_to_list}
 use Rattle.std.specs.List.{flat_map, AllByRecursion}
-use Rattle.escpos_command.specs.declared.bytes.TheConstants.{LF, CR, DLE, ESC, GS, EOT}
+use Rattle.escpos_command.specs.declared.bytes.TheConstants.{HT, LF, CR, DLE, ESC, GS, EOT}
 use Rattle.escpos_command.specs.declared.command.Command.{Command}
 use Rattle.escpos_command.specs.declared.command.Command.TheVariants as kind
 use Rattle.escpos_command.specs.declared.setting.SettingKind.{SettingKind}
 use Rattle.escpos_command.specs.declared.bars.Form.{Form}
 use Rattle.escpos_command.specs.declared.bars.Form.TheVariants.{A, B}
-use Rattle.escpos_command.specs.Parameters.{is_byte, is_character, is_status_kind, is_cut, is_old_cut, is_pulse, is_qr_model, is_qr_size, is_qr_level, is_mark_id}
+use Rattle.escpos_command.specs.Parameters.{is_byte, is_character, is_status_kind, is_cut, is_old_cut, is_word, is_tab_stops, is_pulse, is_qr_model, is_qr_size, is_qr_level, is_mark_id}
 use Rattle.escpos_command.specs.Barcodes.{Barcode, barcode_mode, is_barcode}
+use Rattle.escpos_command.specs.Positions.{position_prefix, word_bytes}
 use Rattle.escpos_command.specs.QrCodes.{is_qr_data}
 use Rattle.escpos_command.specs.Rasters.{Picture, is_raster}
 use Rattle.escpos_command.specs.SettingTable.{table, row_for, row_prefix, is_setting}
 
--- A line of the table: the fixed bytes, the parameter bytes that follow them, the content of a barcode, the dots of a raster or
--- the data of a QR code, a suffix byte, and whether parameters and content are in range.
+-- A line of the table: the fixed bytes, the parameter bytes that follow them, the content of a barcode, the dots of a raster,
+-- the data of a QR code or the columns of tab stops, a suffix byte, and whether parameters and content are in range.
 pub record Entry : Type 0 where
   pub prefix : List ℕ
   pub parameters : List ℕ
@@ -78,15 +79,28 @@ qr_store_entry stored = record {
   in_range = is_qr_data stored;
 }
 
+-- ESC D: the columns of tab stops, and 00.
+abbrev pub tab_stops_entry : List ℕ → Entry
+tab_stops_entry columns = record {
+  prefix = ESC ∷ 0x44 ∷ [];
+  parameters = [];
+  content = columns;
+  suffix = 0x00 ∷ [];
+  in_range = is_tab_stops columns;
+}
+
 -- The line for a command.
 abbrev pub entry_of : Command → Entry
 entry_of (kind.Char b) = entry [] (b ∷ []) (is_character b)  -- the character itself
+entry_of kind.Tab = entry (HT ∷ []) [] true  -- HT
 entry_of kind.LineFeed = entry (LF ∷ []) [] true  -- LF
 entry_of kind.Return = entry (CR ∷ []) [] true  -- CR
 entry_of kind.Init = entry (ESC ∷ 0x40 ∷ []) [] true  -- ESC @
 entry_of (kind.Set s) = entry (row_prefix (row_for table s.0)) (option_to_list s.1) (is_setting table s)  -- a row of the table of settings
 entry_of (kind.FeedLines n) = entry (ESC ∷ 0x64 ∷ []) (n ∷ []) (is_byte n)  -- ESC d
 entry_of (kind.FeedUnits n) = entry (ESC ∷ 0x4A ∷ []) (n ∷ []) (is_byte n)  -- ESC J
+entry_of (kind.Position p) = entry (position_prefix p.0) (word_bytes p.1) (is_word p.1)  -- ESC $, ESC \, GS L, GS W
+entry_of (kind.TabStops columns) = tab_stops_entry columns  -- ESC D
 entry_of (kind.Pulse pulse) = entry (ESC ∷ 0x70 ∷ []) (pulse.0 ∷ pulse.1 ∷ pulse.2 ∷ []) (is_pulse pulse)  -- ESC p
 entry_of (kind.Bars bars) = barcode_entry bars  -- GS k, form A or B
 entry_of (kind.Raster raster) = raster_entry raster  -- GS v 0

@@ -4,6 +4,7 @@ pub mod Meanings
 pub mod Barcodes
 pub mod Rasters
 pub mod QrCodes
+pub mod Positions
 pub mod Digits
 pub mod SettingTable
 pub mod Reference

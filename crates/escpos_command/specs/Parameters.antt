@@ -1,10 +1,14 @@
 -- Which bytes each parameter of the command table may be. The model of a parameter is its byte, as sent.
-use Rattle.std.specs.Prelude.{ℕ, ◌==◌, ◌&&◌, ◌||◌, ◌%◌, nat_le, nat_lt, Bool, List, length, Option, None, Some}
+use Rattle.std.specs.Prelude.{ℕ, ◌==◌, ◌&&◌, ◌||◌, ◌%◌, nat_le, nat_lt, Bool, true, List, [], ◌∷◌, length, Option, None, Some}
 use Rattle.std.specs.List.{list_all}
 
 -- Any byte, 0 to 255.
 abbrev pub is_byte : ℕ → Bool
 is_byte n = nat_lt n 256
+
+-- A number of two bytes.
+abbrev pub is_word : ℕ → Bool
+is_word n = nat_lt n 65536
 
 -- A character, 20 to FF hexadecimal.
 abbrev pub is_character : ℕ → Bool
@@ -65,6 +69,15 @@ is_cut m (Some n) = is_feed_cut_mode m && is_byte n
 -- The letters of the older cuts: i leaves one point, m three.
 abbrev pub is_old_cut : ℕ → Bool
 is_old_cut b = b == 0x69 || b == 0x6D
+
+-- Bytes that rise, from one that is greater than the number before them.
+abbrev pub rises_from : ℕ → List ℕ → Bool
+rises_from before [] = true
+rises_from before (n ∷ ns) = nat_lt before n && is_byte n && rises_from n ns
+
+-- The columns of tab stops: at most 32, from 1 on.
+abbrev pub is_tab_stops : List ℕ → Bool
+is_tab_stops columns = nat_le (length columns) 32 && rises_from 0 columns
 
 -- A pulse to the connector of a cash drawer: which pin, and how long it is on and off.
 abbrev pub is_pulse : ℕ × ℕ × ℕ → Bool

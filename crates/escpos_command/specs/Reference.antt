@@ -53,6 +53,7 @@ reference sets.PanelButtons = setting_of (ESC ∷ 0x63 ∷ 0x35 ∷ []) (passes 
 reference sets.KanjiOff = setting_of (FS ∷ 0x2E ∷ []) alone (codes "kanji off")  -- FS .
 reference sets.CharacterSpacing = setting_of (ESC ∷ 0x20 ∷ []) (passes is_byte) (codes "charspacing")  -- ESC SP
 reference sets.Color = setting_of (ESC ∷ 0x72 ∷ []) (passes is_one_of_two) (codes "color")  -- ESC r
+reference sets.Turned = setting_of (ESC ∷ 0x56 ∷ []) (passes is_one_of_three) (codes "turned")  -- ESC V
 
 -- The name that programs print.
 abbrev pub name_of : SettingKind → List ℕ

@@ -1,15 +1,18 @@
 -- The command table as a tree of bytes. Only proofs and private clauses use it: the definitions of CommandTable and Grammar
 -- do not, and are proved to agree with it.
 use Rattle.std.proofs.Common.{zero, suc}
-use Rattle.std.specs.Prelude.{ℕ, ◌==◌, ◌+◌, ◌-◌, ◌*◌, nat_le, Bool, List, [], ◌∷◌, ◌++◌, length, if◌then◌else◌, None, Some}
-use Rattle.escpos_command.specs.declared.bytes.TheConstants.{LF, CR, DLE, ESC, GS, EOT}
+use Rattle.std.specs.Prelude.{ℕ, ◌==◌, ◌+◌, ◌-◌, ◌*◌, ◌&&◌, nat_le, nat_lt, Bool, List, [], ◌∷◌, ◌++◌, length, if◌then◌else◌, None, Some}
+use Rattle.escpos_command.specs.declared.bytes.TheConstants.{HT, LF, CR, DLE, ESC, GS, EOT}
 use Rattle.escpos_command.specs.declared.command.Command.{Command}
 use Rattle.escpos_command.specs.declared.command.Command.TheVariants as kind
 use Rattle.escpos_command.specs.declared.bars.Form.TheVariants.{A, B}
 use Rattle.escpos_command.specs.declared.bars.Symbology.{Symbology}
-use Rattle.escpos_command.specs.declared.bars.Symbology.TheVariants.{UpcA, Ean13, Ean8, Code39, Itf, Codabar, Code128}
+use Rattle.escpos_command.specs.declared.bars.Symbology.TheVariants.{UpcA, UpcE, Ean13, Ean8, Code39, Itf, Codabar, Code93, Code128, Gs1Code128}
 use Rattle.escpos_command.specs.Parameters.{is_character, is_one_of_two, is_one_of_four, is_status_kind, is_feed_cut_mode, is_byte, is_mark_byte, is_qr_model, is_qr_size, is_qr_level}
 use Rattle.escpos_command.specs.Barcodes.{barcode, has_length, allows, is_digit, is_code39, is_codabar, is_codabar_end}
+use Rattle.escpos_command.specs.declared.parameter.position.PositionKind.{PositionKind}
+use Rattle.escpos_command.specs.declared.parameter.position.PositionKind.TheVariants as at
+use Rattle.escpos_command.specs.Positions.{word_of}
 use Rattle.escpos_command.specs.QrCodes.{is_qr_length}
 use Rattle.escpos_command.specs.Rasters.{picture, is_width, is_height}
 use Rattle.escpos_command.specs.SettingTable.{table, may_follow, is_nothing, row_prefix}
@@ -81,6 +84,14 @@ stopped (suc n) test stops make read =
     else if test b then stopped n test stops make (read ++ b ∷ [])
     else dead)
 
+-- At most n more bytes after those read so far, each greater than the one before it, then 00. All of them but the 00 make the command.
+unfoldable pub rising : ℕ → ℕ → (List ℕ → Command) → List ℕ → Tree
+rising zero before make read = node (λ b. if b == 0 then leaf (make read) else dead)
+rising (suc n) before make read =
+    node (λ b. if b == 0 then leaf (make read)
+    else if nat_lt before b && is_byte b then rising n b make (read ++ b ∷ [])
+    else dead)
+
 -- A table of bytes and trees, tried in order, and a tree for every other byte.
 abbrev pub branch : List (ℕ × Tree) → (ℕ → Tree) → ℕ → Tree
 branch [] other x = other x
@@ -92,6 +103,17 @@ none x = dead
 -- A byte that passes a test and makes a command.
 abbrev pub one : (ℕ → Bool) → (ℕ → Command) → Tree
 one test make = passing test (λ n. leaf (make n))
+
+-- The bytes of a position are a number, the low one first.
+abbrev pub position_high : PositionKind → ℕ → Tree
+position_high which low = one is_byte (λ high. kind.Position (which, word_of low high))
+
+abbrev pub position : PositionKind → Tree
+position which = passing is_byte (position_high which)
+
+-- ESC D takes columns that rise, the first after 0.
+abbrev pub tab_stops : ℕ → ℕ → List ℕ → Tree
+tab_stops most before read = rising most before kind.TabStops read
 
 -- ESC p takes a pin and two times.
 abbrev pub pulse : Tree
@@ -154,6 +176,13 @@ abbrev pub plain_content : Symbology → ℕ → List ℕ → Tree
 plain_content symbology most read =
     closed most (plain_byte symbology) (λ content. has_length symbology (length content)) (λ content. kind.Bars (barcode A symbology content)) read
 
+-- Form A of UPC-E: the first digit, and at most this many more. Without the number system 0 at its begin there are six in all.
+abbrev pub upce_more : ℕ → ℕ
+upce_more first = if first == 0x30 then 11 else 5
+
+abbrev pub upce_content : Tree
+upce_content = passing is_digit (λ first. plain_content UpcE (upce_more first) (first ∷ []))
+
 -- Form A of CODABAR, after the bytes of the content read so far, at least one: at most this many more, then the last, then
 -- 00.
 abbrev pub codabar_content : ℕ → List ℕ → Tree
@@ -170,18 +199,22 @@ form_b symbology = passing (has_length symbology) (λ n. content_of symbology n 
 abbrev pub barcodes : List (ℕ × Tree)
 barcodes =
     (0, plain_content UpcA 12 [])
+    ∷ (1, upce_content)
     ∷ (2, plain_content Ean13 13 [])
     ∷ (3, plain_content Ean8 8 [])
     ∷ (4, plain_content Code39 255 [])
     ∷ (5, plain_content Itf 254 [])
     ∷ (6, passing is_codabar_end (λ first. codabar_content 253 (first ∷ [])))
     ∷ (65, form_b UpcA)
+    ∷ (66, form_b UpcE)
     ∷ (67, form_b Ean13)
     ∷ (68, form_b Ean8)
     ∷ (69, form_b Code39)
     ∷ (70, form_b Itf)
     ∷ (71, form_b Codabar)
+    ∷ (72, form_b Code93)
     ∷ (73, form_b Code128)
+    ∷ (74, form_b Gs1Code128)
     ∷ []
 
 -- ## Rasters
@@ -224,6 +257,12 @@ forms =
     ∷ (GS ∷ 0x76 ∷ [], raster)
     ∷ (ESC ∷ 0x69 ∷ [], leaf (kind.OldCut 0x69))
     ∷ (ESC ∷ 0x6D ∷ [], leaf (kind.OldCut 0x6D))
+    ∷ (HT ∷ [], leaf kind.Tab)
+    ∷ (ESC ∷ 0x24 ∷ [], position at.Absolute)
+    ∷ (ESC ∷ 0x5C ∷ [], position at.Relative)
+    ∷ (GS ∷ 0x4C ∷ [], position at.LeftMargin)
+    ∷ (GS ∷ 0x57 ∷ [], position at.AreaWidth)
+    ∷ (ESC ∷ 0x44 ∷ [], tab_stops 32 0 [])
     ∷ []
 
 -- What follows the prefix of a setting.

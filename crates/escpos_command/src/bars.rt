@@ -4,7 +4,7 @@
 //! bytes uses the tests of single bytes (`Symbology::allows`, `is_digit` and the like).
 
 ghost use Rattle.std.specs.Prelude.{◌≡◌, ◌≤◌, ◌<◌, length, IsTrue, IsOk, MatchOption, MatchResult};
-ghost use Rattle.escpos_command.specs.Barcodes.{barcode, barcode_mode, symbology_number, has_form, has_length, allows, all_from, is_barcode, is_digit, is_code39, is_codabar, is_codabar_end, IsBarFault, IsLeast};
+ghost use Rattle.escpos_command.specs.Barcodes.{barcode, barcode_mode, symbology_number, has_form, has_length, is_upce_first, allows, all_from, is_barcode, is_digit, is_code39, is_codabar, is_codabar_end, IsBarFault, IsLeast};
 
 use crate::content::Bytes;
 use std::marker::Model;
@@ -23,6 +23,9 @@ pub enum Form {
 pub enum Symbology {
     /// UPC-A: 11 digits, or 12 with the check digit.
     UpcA,
+    /// UPC-E: 6 digits; or 0 and 6 digits, with the check digit or without; or 11 or 12 digits of UPC-A that begin with 0, which the
+    /// printer shortens.
+    UpcE,
     /// EAN-13: 12 digits, or 13 with the check digit.
     Ean13,
     /// EAN-8: 7 digits, or 8 with the check digit.
@@ -33,24 +36,31 @@ pub enum Symbology {
     Itf,
     /// CODABAR: 2 to 255 bytes, of which the first and the last are A-D or a-d and the others 0-9 and `$ + - . / :`.
     Codabar,
+    /// CODE93: 1 to 255 bytes 0 to 127. It has no form A.
+    Code93,
     /// CODE128: 2 to 255 bytes: `{`, then the code set A, B or C, then bytes 0 to 127. It has no form A.
     Code128,
+    /// GS1-128: 2 to 255 bytes 0 to 127, for which the printer chooses the code sets of CODE128. It has no form A.
+    Gs1Code128,
 }
 
 impl Symbology {
     // How many symbologies come before this one in the Reference.
     fn number(self) -> u8
         ensures value { result ≡ symbology_number self }
-        ensures small { result ≤ 8 }
+        ensures small { result ≤ 9 }
     {
         match self {
             Symbology::UpcA => 0,
+            Symbology::UpcE => 1,
             Symbology::Ean13 => 2,
             Symbology::Ean8 => 3,
             Symbology::Code39 => 4,
             Symbology::Itf => 5,
             Symbology::Codabar => 6,
+            Symbology::Code93 => 7,
             Symbology::Code128 => 8,
+            Symbology::Gs1Code128 => 9,
         }
     }
 
@@ -58,7 +68,13 @@ impl Symbology {
     pub fn has_form(self, form: Form) -> bool
         ensures { result ≡ has_form form self }
     {
-        !matches!((self, form), (Symbology::Code128, Form::A))
+        !matches!(
+            (self, form),
+            (
+                Symbology::Code93 | Symbology::Code128 | Symbology::Gs1Code128,
+                Form::A
+            )
+        )
     }
 
     /// Whether a content may have this many bytes.
@@ -67,11 +83,14 @@ impl Symbology {
     {
         match self {
             Symbology::UpcA => matches!(length, 11 | 12),
+            Symbology::UpcE => matches!(length, 6 | 7 | 8 | 11 | 12),
             Symbology::Ean13 => matches!(length, 12 | 13),
             Symbology::Ean8 => matches!(length, 7 | 8),
-            Symbology::Code39 => matches!(length, 1..=255),
+            Symbology::Code39 | Symbology::Code93 => matches!(length, 1..=255),
             Symbology::Itf => matches!(length, 2..=254) && length % 2 == 0,
-            Symbology::Codabar | Symbology::Code128 => matches!(length, 2..=255),
+            Symbology::Codabar | Symbology::Code128 | Symbology::Gs1Code128 => {
+                matches!(length, 2..=255)
+            }
         }
     }
 
@@ -81,6 +100,13 @@ impl Symbology {
     {
         match self {
             Symbology::UpcA | Symbology::Ean13 | Symbology::Ean8 | Symbology::Itf => is_digit(byte),
+            Symbology::UpcE => {
+                if place == 0 {
+                    is_upce_first(length, byte)
+                } else {
+                    is_digit(byte)
+                }
+            }
             Symbology::Code39 => is_code39(byte),
             Symbology::Codabar => {
                 if place == 0 || length.checked_sub(1) == Some(place) {
@@ -94,6 +120,7 @@ impl Symbology {
                 1 => matches!(byte, b'A'..=b'C'),
                 _ => byte < 0x80,
             },
+            Symbology::Code93 | Symbology::Gs1Code128 => byte < 0x80,
         }
     }
 }
@@ -103,6 +130,18 @@ pub fn is_digit(byte: u8) -> bool
     ensures { result ≡ is_digit byte }
 {
     byte.is_ascii_digit()
+}
+
+// Whether a content of UPC-E of this length may begin with the byte: with any digit if it is of six, and otherwise with the number
+// system, which is 0.
+fn is_upce_first(length: usize, byte: u8) -> bool
+    ensures { result ≡ is_upce_first length byte }
+{
+    if length == 6 {
+        is_digit(byte)
+    } else {
+        byte == b'0'
+    }
 }
 
 /// Whether CODE39 has the byte: 0-9, A-Z, space and `$ % * + - . /`.
@@ -133,7 +172,7 @@ pub fn is_codabar_end(byte: u8) -> bool
 /// Why bytes aren't a barcode: the first reason that applies.
 #[derive(Clone, Copy, Debug, PartialEq, Eq)]
 pub enum BarFault {
-    /// 1: CODE128 has no form A.
+    /// 1: CODE93, CODE128 and GS1-128 have no form A.
     Form,
     /// 2: the symbology has no content of this length.
     Length,
@@ -204,7 +243,7 @@ impl Bars {
         self.symbology
     }
 
-    /// The byte m, which shows the symbology and the form: 0 to 6 in form A, 65 to 73 in form B.
+    /// The byte m, which shows the symbology and the form: 0 to 6 in form A, 65 to 74 in form B.
     pub fn mode(&self) -> u8
         ensures { result ≡ barcode_mode self.now.form self.now.symbology }
     {

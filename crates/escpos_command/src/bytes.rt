@@ -1,5 +1,8 @@
 //! The control bytes that begin a command. (Reference: "ASCII code table".)
 
+/// Horizontal tab.
+pub const HT: u8 = 0x09;
+
 /// Line feed.
 pub const LF: u8 = 0x0A;
 
@@ -23,5 +26,5 @@ pub const EOT: u8 = 0x04;
 
 // The definitions cite these values, so each is pinned to the Reference's.
 const _: () = prove!(
-    LF == 10 && CR == 13 && DLE == 16 && ESC == 27 && FS == 28 && GS == 29 && EOT == 4
+    HT == 9 && LF == 10 && CR == 13 && DLE == 16 && ESC == 27 && FS == 28 && GS == 29 && EOT == 4
 );

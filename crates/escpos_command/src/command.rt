@@ -7,16 +7,16 @@
 
 ghost use Rattle.std.specs.Prelude.{◌≡◌, ◌≤◌, ◌+◌, [], ◌∷◌, length, IsTrue, Some};
 ghost use Rattle.std.specs.Option.{SomeIff};
-ghost use Rattle.escpos_command.specs.CommandTable.{entry_of, barcode_entry, raster_entry, qr_model_entry, qr_store_entry, set_to, IsCommand};
+ghost use Rattle.escpos_command.specs.CommandTable.{entry_of, barcode_entry, raster_entry, qr_model_entry, qr_store_entry, tab_stops_entry, set_to, IsCommand};
 ghost use Rattle.escpos_command.specs.SettingTable.{table, is_setting};
 ghost use Rattle.escpos_command.specs.declared.command.Command.TheVariants as kind;
 
 use crate::bars::{Bars, Form};
-use crate::bytes::{CR, DLE, EOT, ESC, GS, LF};
+use crate::bytes::{CR, DLE, EOT, ESC, GS, HT, LF};
 use crate::mark::MarkId;
 use crate::parameter::{
-    Character, Cut, FeedLines, FeedUnits, OldCut, Pulse, QrLevel, QrModel, QrSize, Reporting,
-    StatusKind,
+    Character, Cut, FeedLines, FeedUnits, OldCut, Position, Pulse, QrLevel, QrModel, QrSize,
+    Reporting, StatusKind, TabStops,
 };
 use crate::qr::QrData;
 use crate::raster::Raster;
@@ -28,6 +28,8 @@ use arrayvec::ArrayVec;
 pub enum Command {
     /// A character in the line. (Reference: "Printing characters".)
     Char(Character),
+    /// HT: the next character stands at the next tab stop. (Reference: HT.)
+    Tab,
     /// LF: prints the line and feeds one line. (Reference: LF.)
     LineFeed,
     /// CR: ignored. (Reference: CR.)
@@ -40,6 +42,11 @@ pub enum Command {
     FeedLines(FeedLines),
     /// ESC J: prints the line and feeds some motion units. (Reference: ESC J.)
     FeedUnits(FeedUnits),
+    /// ESC $, ESC \\, GS L or GS W: where the next character stands, the left margin, or the width of the printing area.
+    /// (Reference: ESC $, ESC \\, GS L, GS W.)
+    Position(Position),
+    /// ESC D: sets the tab stops. (Reference: ESC D.)
+    TabStops(TabStops),
     /// ESC p: sends a pulse to the connector of the cash drawer. (Reference: ESC p.)
     Pulse(Pulse),
     /// GS k: prints a barcode. (Reference: GS k.)
@@ -77,9 +84,9 @@ pub struct Parts<'a> {
     pub prefix: &'static [u8],
     /// The parameter bytes, at most 5.
     pub parameters: ArrayVec<u8, 5>,
-    /// The content of a barcode, the dots of a raster or the data of a QR code; none for all other commands.
+    /// The content of a barcode, the dots of a raster, the data of a QR code or the columns of tab stops; none for all other commands.
     pub content: &'a [u8],
-    /// The byte 00 that ends a barcode of form A or the model of QR codes; none for all other commands.
+    /// The byte 00 that ends a barcode of form A, the model of QR codes or tab stops; none for all other commands.
     pub suffix: &'static [u8],
 }
 
@@ -113,12 +120,18 @@ impl Command {
     {
         match self {
             Command::Char(character) => with(&[], character.byte()),
+            Command::Tab => alone(&[HT]),
             Command::LineFeed => alone(&[LF]),
             Command::Return => alone(&[CR]),
             Command::Init => alone(&[ESC, b'@']),
             Command::Set(setting) => set(*setting),
             Command::FeedLines(feed) => with(&[ESC, b'd'], feed.byte()),
             Command::FeedUnits(feed) => with(&[ESC, b'J'], feed.byte()),
+            Command::Position(position) => with_all(
+                position.kind().prefix(),
+                &position.units().to_le_bytes(),
+            ),
+            Command::TabStops(stops) => tab_stops(stops),
             Command::Pulse(pulse) => {
                 with_all(&[ESC, b'p'], &[pulse.pin(), pulse.on(), pulse.off()])
             }
@@ -216,6 +229,21 @@ fn qr_model(model: QrModel) -> Parts<'static>
     Parts {
         suffix: &[0],
         ..with(&[GS, b'(', b'k', 4, 0, b'1', b'A'], model.byte())
+    }
+}
+
+// The parts of tab stops.
+fn tab_stops(stops: &TabStops) -> Parts<'_>
+    ensures prefix { result.prefix.now ≡ (tab_stops_entry stops.now).prefix }
+    ensures parameters { result.parameters.items ≡ [] }
+    ensures content { result.content.now ≡ stops.now }
+    ensures suffix { result.suffix.now ≡ (tab_stops_entry stops.now).suffix }
+    ensures in_range { IsCommand (kind.TabStops stops.now) }
+{
+    Parts {
+        content: stops.as_slice(),
+        suffix: &[0],
+        ..alone(&[ESC, b'D'])
     }
 }
 

@@ -31,7 +31,7 @@ mod writing;
 pub use answer::Answer;
 pub use automatic_status::{AutomaticStatus, begins_block, continues_block};
 pub use bars::{BarFault, Bars, Form, Symbology, is_codabar, is_codabar_end, is_code39, is_digit};
-pub use bytes::{CR, DLE, EOT, ESC, FS, GS, LF};
+pub use bytes::{CR, DLE, EOT, ESC, FS, GS, HT, LF};
 pub use chars::{CharsFault, chars_of};
 pub use command::{Command, LONGEST_PREFIX, Parts};
 pub use content::Bytes;
@@ -40,8 +40,9 @@ pub use line_width::{LineWidth, MOST_LINE_DOTS, USUAL_LINE_DOTS};
 pub use mark::{MarkId, is_mark_byte};
 pub use parameter::{
     Alignment, Character, Correction, Cut, FeedLines, FeedUnits, FontFace, HriPosition, OldCut,
-    Pulse, QrLevel, QrModel, QrSize, Reporting, Scale, StatusKind, alignment_of, choice, face_of,
-    face_of_mode, has_bit, hri_position_of, magnified, size_height, size_width, underline_of_mode,
+    Position, PositionKind, Pulse, QrLevel, QrModel, QrSize, Reporting, Scale, StatusKind,
+    TabStops, alignment_of, choice, face_of, face_of_mode, has_bit, hri_position_of, magnified,
+    size_height, size_width, underline_of_mode,
 };
 pub use qr::{MOST_QR_DATA, QrData};
 pub use raster::{HIGHEST, Raster, RasterFault, WIDEST, is_height, is_scale, is_width};

@@ -8,6 +8,7 @@
 mod character;
 mod choices;
 mod line;
+mod position;
 mod qr;
 
 pub use character::Character;
@@ -17,4 +18,5 @@ pub use choices::{
     underline_of_mode,
 };
 pub use line::{Cut, FeedLines, FeedUnits, OldCut, Pulse, Reporting, StatusKind};
+pub use position::{Position, PositionKind, TabStops};
 pub use qr::{QrLevel, QrModel, QrSize};

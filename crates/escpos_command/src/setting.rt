@@ -94,6 +94,8 @@ pub enum SettingKind {
     CharacterSpacing,
     /// The colour. It is kept with each character. (Reference: ESC r.)
     Color,
+    /// Whether characters are turned by 90 degrees, clockwise. It is kept with each character. (Reference: ESC V.)
+    Turned,
 }
 
 /// A row of the table.
@@ -143,6 +145,7 @@ macro_rules! settings {
             KanjiOff, FS, b'.', None, Nothing, 4, "kanji off";
             CharacterSpacing, ESC, b' ', None, Byte, 4, "charspacing";
             Color, ESC, b'r', None, OneOfTwo, 4, "color";
+            Turned, ESC, b'V', None, OneOfThree, 4, "turned";
         }
     };
 }

@@ -118,8 +118,8 @@ part_longer (form ∷ all) q more h =
     both _ _ (apart_longer form.0 q more (and_left (apart form.0 q) (part_from q all) h)) (part_longer all q more (and_right (apart form.0 q) (part_from q all) h))
 
 -- Where no command begins with a byte.
-pub begins_no_form : (b : ℕ) → b ≢ 10 → b ≢ 13 → b ≢ 16 → b ≢ 27 → b ≢ 29 → part_from (b ∷ []) forms ≡ true
-begins_no_form b lf cr dle esc gs = grind (arith, nat_tests)
+pub begins_no_form : (b : ℕ) → b ≢ 9 → b ≢ 10 → b ≢ 13 → b ≢ 16 → b ≢ 27 → b ≢ 29 → part_from (b ∷ []) forms ≡ true
+begins_no_form b ht lf cr dle esc gs = grind (arith, nat_tests)
 
 no_character : (b : ℕ) → is_character b ≡ false → walk (node character) (b ∷ []) ≡ dead
 no_character b h = ap (λ v. walk (cond v (leaf (kind.Char b)) dead) []) h

@@ -12,7 +12,7 @@ use Rattle.escpos_command.specs.CommandTable.{Spells}
 use Rattle.escpos_command.specs.Grammar.{Viable, Half, Reads, FaultAt}
 use Rattle.escpos_command.specs.Places.{reason_after}
 use Rattle.escpos_command.specs.Prefixes.{part_from}
-use Rattle.escpos_command.specs.Tree.{Tree, dead, leaf, node, walk, one, forms, grammar, setting_tree, counted, closed, stopped}
+use Rattle.escpos_command.specs.Tree.{Tree, dead, leaf, node, walk, one, forms, grammar, setting_tree, counted, closed, stopped, rising}
 use Rattle.escpos_decode.specs.declared.state.State.{State}
 use Rattle.escpos_decode.specs.declared.state.State.TheVariants as state
 use Rattle.escpos_decode.specs.declared.state.Ending.{Ending}
@@ -62,6 +62,11 @@ stopped_node : (n : ℕ) (test stops : ℕ → Bool) (make : List ℕ → Comman
 unfolding stopped
 stopped_node zero test stops make read = (_, refl)
 stopped_node (suc n) test stops make read = (_, refl)
+
+rising_node : (n before : ℕ) (make : List ℕ → Command) (read : List ℕ) → (next : ℕ → Tree) × (rising n before make read ≡ node next)
+unfolding rising
+rising_node zero before make read = (_, refl)
+rising_node (suc n) before make read = (_, refl)
 
 -- What leads to something live is a choice before that.
 node_before : (s : Tree) (b : ℕ) (more : List ℕ) (t : Tree) → walk s (b ∷ more) ≡ t → IsLive t → (next : ℕ → Tree) × (s ≡ node next)
@@ -116,6 +121,9 @@ node_at (state.Letters first second) read h =
     node_at_letters first second (and_left any (not short) (and_left (any && not short) (part_from (first ∷ second ∷ []) forms) h))
 node_at (state.Setting which) read h = node_at_setting which h
 node_at (state.Parameter l) read h = (_, refl)
+node_at (state.PositionLow which) read h = (_, refl)
+node_at (state.PositionHigh which low) read h = (_, refl)
+node_at (state.TabStops most before) read h = rising_node most before _ read
 node_at state.PulsePin read h = (_, refl)
 node_at (state.PulseOn pin) read h = (_, refl)
 node_at (state.PulseOff pin on) read h = (_, refl)
@@ -132,6 +140,7 @@ node_at (state.MarkThird first second) read h = counted_node 2 _ _ _ refl
 node_at (state.MarkFourth first second third) read h = counted_node 1 _ _ _ refl
 node_at state.BarsMode read h = (_, refl)
 node_at (state.PlainContent symbology most) read h = closed_node most _ _ _ read
+node_at state.UpceFirst read h = (_, refl)
 node_at state.CodabarFirst read h = (_, refl)
 node_at (state.CodabarContent most) read h = stopped_node most _ _ _ read
 node_at state.CodabarEnd read h = (_, refl)
@@ -252,12 +261,15 @@ grown law p q seen read now half b same view at g e =
 
 some_ahead : (c : Command) → ahead_of c ≢ ahead.Nothing
 some_ahead (kind.Char x) e = absurd cc
+some_ahead kind.Tab e = absurd cc
 some_ahead kind.LineFeed e = absurd cc
 some_ahead kind.Return e = absurd cc
 some_ahead kind.Init e = absurd cc
 some_ahead (kind.Set x) e = absurd cc
 some_ahead (kind.FeedLines x) e = absurd cc
 some_ahead (kind.FeedUnits x) e = absurd cc
+some_ahead (kind.Position x) e = absurd cc
+some_ahead (kind.TabStops x) e = absurd cc
 some_ahead (kind.Pulse x) e = absurd cc
 some_ahead (kind.Bars x) e = absurd cc
 some_ahead (kind.Raster x) e = absurd cc
@@ -282,6 +294,7 @@ other : (e : Ending) (read : List ℕ) → ahead_of (command_of e read) ≡ ahea
 other (ending.Bars form symbology) read = refl
 other (ending.Raster scale width height) read = refl
 other ending.QrStore read = refl
+other ending.TabStops read = refl
 
 no_command : (half : List ℕ) (b : ℕ) → (Viable (half ++ b ∷ []) → ⊥) → (c : Command) → Spells c (half ++ b ∷ []) → ⊥
 no_command half b r c s = r (c, [], subst (λ v. Spells c v) (sym (append-nil (half ++ b ∷ []))) s)

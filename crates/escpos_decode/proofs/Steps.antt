@@ -4,7 +4,7 @@ use Rattle.std.specs.Prelude.{◌==◌, ◌&&◌, nat_lt}
 use Rattle.std.proofs.lemmas.Bool.Decides.{nat_tests}
 use Rattle.escpos_command.specs.declared.command.Command.{Command}
 use Rattle.escpos_command.specs.Parameters.{is_byte}
-use Rattle.escpos_command.specs.Tree.{dead, leaf, these, counted, closed, stopped, ending}
+use Rattle.escpos_command.specs.Tree.{dead, leaf, these, counted, closed, stopped, ending, rising}
 use Rattle.escpos_decode.specs.State.{step}
 
 one_less : (n : ℕ) → suc n - 1 ≡ n
@@ -106,6 +106,44 @@ stopped_stops n test stops make read b z e =
     stopped_step n test stops make read b
     ∙ ap (λ v. cond v (these (0x00 ∷ []) (leaf (make (read ++ b ∷ [])))) (cond (nat_lt 0 n && test b) (stopped (n - 1) test stops make (read ++ b ∷ [])) dead)) z
     ∙ ap (λ v. cond v (stopped (n - 1) test stops make (read ++ b ∷ [])) dead) e
+
+-- ## Bytes that rise, closed by 00
+
+rising_step : (n before : ℕ) (make : List ℕ → Command) (read : List ℕ) (b : ℕ)
+    → step (rising n before make read) b
+    ≡ cond (b == 0) (leaf (make read)) (cond (nat_lt 0 n && (nat_lt before b && is_byte b)) (rising (n - 1) b make (read ++ b ∷ [])) dead)
+unfolding rising
+rising_step zero before make read b = refl
+rising_step (suc n) before make read b =
+    ap (λ m. cond (b == 0) (leaf (make read)) (cond (nat_lt before b && is_byte b) (rising m b make (read ++ b ∷ [])) dead)) (sym (one_less n))
+    ∙ ap (λ v. cond (b == 0) (leaf (make read)) (cond (v && (nat_lt before b && is_byte b)) (rising (suc n - 1) b make (read ++ b ∷ [])) dead)) (sym (some_left n))
+
+pub rising_ends : (n before : ℕ) (make : List ℕ → Command) (read : List ℕ) (b : ℕ) → b ≡ 0 → step (rising n before make read) b ≡ leaf (make read)
+rising_ends n before make read b z =
+    rising_step n before make read b
+    ∙ ap (λ m. cond (m == 0) (leaf (make read)) (cond (nat_lt 0 n && (nat_lt before b && is_byte b)) (rising (n - 1) b make (read ++ b ∷ [])) dead)) z
+
+rising_on : (n before : ℕ) (make : List ℕ → Command) (read : List ℕ) (b : ℕ) (v : Bool) → b < 256 → (b == 0) ≡ false → (nat_lt 0 n && nat_lt before b) ≡ v
+    → step (rising n before make read) b ≡ cond v (rising (n - 1) b make (read ++ b ∷ [])) dead
+rising_on n before make read b v small z e =
+    let byte : is_byte b ≡ true = grind (arith, nat_tests) in
+    rising_step n before make read b
+    ∙ ap (λ u. cond u (leaf (make read)) (cond (nat_lt 0 n && (nat_lt before b && is_byte b)) (rising (n - 1) b make (read ++ b ∷ [])) dead)) z
+    ∙ ap (λ u. cond (nat_lt 0 n && (nat_lt before b && u)) (rising (n - 1) b make (read ++ b ∷ [])) dead) byte
+    ∙ ap (λ u. cond (nat_lt 0 n && u) (rising (n - 1) b make (read ++ b ∷ [])) dead) (and_true (nat_lt before b))
+    ∙ ap (λ u. cond u (rising (n - 1) b make (read ++ b ∷ [])) dead) e
+  where
+    and_true : (u : Bool) → (u && true) ≡ u
+    and_true true = refl
+    and_true false = refl
+
+pub rising_goes : (n before : ℕ) (make : List ℕ → Command) (read : List ℕ) (b : ℕ) → b < 256 → (b == 0) ≡ false → (nat_lt 0 n && nat_lt before b) ≡ true
+    → step (rising n before make read) b ≡ rising (n - 1) b make (read ++ b ∷ [])
+rising_goes n before make read b small z e = rising_on n before make read b true small z e
+
+pub rising_stops : (n before : ℕ) (make : List ℕ → Command) (read : List ℕ) (b : ℕ) → b < 256 → (b == 0) ≡ false → (nat_lt 0 n && nat_lt before b) ≡ false
+    → step (rising n before make read) b ≡ dead
+rising_stops n before make read b small z e = rising_on n before make read b false small z e
 
 -- ## Tests and counts
 

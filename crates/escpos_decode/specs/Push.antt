@@ -6,7 +6,7 @@ use Rattle.escpos_decode.specs.declared.decoder.DecodeFault.{DecodeFault}
 use Rattle.escpos_decode.specs.declared.decoder.DecodeFault.TheVariants.{Fault, Memory}
 use Rattle.escpos_decode.specs.declared.decoder.Ahead.{Ahead}
 use Rattle.escpos_decode.specs.declared.decoder.Ahead.TheVariants as ahead
-use Rattle.escpos_command.specs.declared.bytes.TheConstants.{GS}
+use Rattle.escpos_command.specs.declared.bytes.TheConstants.{ESC, GS}
 use Rattle.escpos_command.specs.declared.command.Command.{Command}
 use Rattle.escpos_command.specs.declared.command.Command.TheVariants as kind
 use Rattle.escpos_command.specs.CommandTable.{Spells}
@@ -57,8 +57,12 @@ abbrev pub begins_qr_code : ℕ → ℕ → List ℕ → Bool
 begins_qr_code b letter [] = false
 begins_qr_code b letter (third ∷ bs) = b == GS && letter == 0x28 && third == 0x6B
 
--- The bytes begin as a barcode, a raster or a function of QR codes does: 1D 6B, 1D 76 or 1D 28 6B.
+-- ESC D begins tab stops.
+abbrev pub begins_tab_stops : ℕ → ℕ → Bool
+begins_tab_stops b letter = b == ESC && letter == 0x44
+
+-- The bytes begin as a barcode, a raster, tab stops or a function of QR codes does: 1D 6B, 1D 76, 1B 44 or 1D 28 6B.
 abbrev pub begins_content : List ℕ → Bool
 begins_content [] = false
 begins_content (b ∷ []) = false
-begins_content (b ∷ letter ∷ bs) = begins_barcode b letter || begins_raster b letter || begins_qr_code b letter bs
+begins_content (b ∷ letter ∷ bs) = begins_barcode b letter || begins_raster b letter || begins_tab_stops b letter || begins_qr_code b letter bs

@@ -7,13 +7,14 @@ use Rattle.escpos_command.specs.declared.bytes.TheConstants.{DLE, ESC, GS}
 use Rattle.escpos_command.specs.declared.command.Command.{Command}
 use Rattle.escpos_command.specs.declared.command.Command.TheVariants as kind
 use Rattle.escpos_command.specs.declared.bars.Form.TheVariants.{A, B}
-use Rattle.escpos_command.specs.declared.bars.Symbology.TheVariants.{Codabar}
+use Rattle.escpos_command.specs.declared.bars.Symbology.TheVariants.{UpcE, Codabar}
 use Rattle.escpos_command.specs.Parameters.{is_byte, is_one_of_two, is_one_of_four, is_feed_cut_mode, is_mark_byte, is_qr_model}
 use Rattle.escpos_command.specs.Barcodes.{barcode, barcode_mode, is_codabar_end}
+use Rattle.escpos_command.specs.Positions.{position_prefix}
 use Rattle.escpos_command.specs.Rasters.{picture, is_width}
 use Rattle.escpos_command.specs.Prefixes.{part_from}
 use Rattle.escpos_command.specs.SettingTable.{table, is_nothing, has_first, has_prefix, takes_third, row_prefix, row_for}
-use Rattle.escpos_command.specs.Tree.{Tree, walk, below, dead, leaf, node, passing, these, one, counted, branch, none, forms, grammar, setting_tree, pulse, cut, barcodes, raster, after_scale, after_width, after_low, plain_content, codabar_content, content_of, dots_tree, form_b, qr, qr_high, qr_code, qr_function, qr_data}
+use Rattle.escpos_command.specs.Tree.{Tree, walk, below, dead, leaf, node, passing, these, one, counted, branch, none, forms, grammar, setting_tree, position, position_high, tab_stops, pulse, cut, barcodes, raster, after_scale, after_width, after_low, plain_content, upce_content, codabar_content, content_of, dots_tree, form_b, qr, qr_high, qr_code, qr_function, qr_data}
 use Rattle.escpos_decode.specs.OneParameter.{parameter_prefix, parameter_allows, parameter_command}
 use Rattle.escpos_decode.specs.Push.{ahead_of, begins_content}
 use Rattle.escpos_decode.specs.declared.decoder.Ahead.{Ahead}
@@ -45,6 +46,9 @@ prefix_of (state.First first) = first ∷ []
 prefix_of (state.Letters first second) = first ∷ second ∷ []
 prefix_of (state.Setting which) = row_prefix (row_for table which)
 prefix_of (state.Parameter letter) = parameter_prefix letter
+prefix_of (state.PositionLow which) = position_prefix which
+prefix_of (state.PositionHigh which low) = position_prefix which ++ low ∷ []
+prefix_of (state.TabStops most before) = ESC ∷ 0x44 ∷ []
 prefix_of state.PulsePin = ESC ∷ 0x70 ∷ []
 prefix_of (state.PulseOn pin) = ESC ∷ 0x70 ∷ pin ∷ []
 prefix_of (state.PulseOff pin on) = ESC ∷ 0x70 ∷ pin ∷ on ∷ []
@@ -61,6 +65,7 @@ prefix_of (state.MarkThird first second) = mark_prefix ++ first ∷ second ∷ [
 prefix_of (state.MarkFourth first second third) = mark_prefix ++ first ∷ second ∷ third ∷ []
 prefix_of state.BarsMode = GS ∷ 0x6B ∷ []
 prefix_of (state.PlainContent symbology most) = GS ∷ 0x6B ∷ barcode_mode A symbology ∷ []
+prefix_of state.UpceFirst = GS ∷ 0x6B ∷ barcode_mode A UpcE ∷ []
 prefix_of state.CodabarFirst = GS ∷ 0x6B ∷ barcode_mode A Codabar ∷ []
 prefix_of (state.CodabarContent most) = GS ∷ 0x6B ∷ barcode_mode A Codabar ∷ []
 prefix_of state.CodabarEnd = GS ∷ 0x6B ∷ barcode_mode A Codabar ∷ []
@@ -93,6 +98,9 @@ tree_of (state.First first) read = walk grammar (first ∷ [])
 tree_of (state.Letters first second) read = walk grammar (first ∷ second ∷ [])
 tree_of (state.Setting which) read = setting_tree (row_for table which)
 tree_of (state.Parameter letter) read = one (parameter_allows letter) (parameter_command letter)
+tree_of (state.PositionLow which) read = position which
+tree_of (state.PositionHigh which low) read = position_high which low
+tree_of (state.TabStops most before) read = tab_stops most before read
 tree_of state.PulsePin read = pulse
 tree_of (state.PulseOn pin) read = passing is_byte (λ on. one is_byte (λ off. kind.Pulse (pin, on, off)))
 tree_of (state.PulseOff pin on) read = one is_byte (λ off. kind.Pulse (pin, on, off))
@@ -109,6 +117,7 @@ tree_of (state.MarkThird first second) read = counted 2 (λ _. is_mark_byte) kin
 tree_of (state.MarkFourth first second third) read = counted 1 (λ _. is_mark_byte) kind.Mark (first ∷ second ∷ third ∷ [])
 tree_of state.BarsMode read = node (branch barcodes none)
 tree_of (state.PlainContent symbology most) read = plain_content symbology most read
+tree_of state.UpceFirst read = upce_content
 tree_of state.CodabarFirst read = passing is_codabar_end (λ first. codabar_content 253 (first ∷ []))
 tree_of (state.CodabarContent most) read = codabar_content most read
 tree_of state.CodabarEnd read = these (0x00 ∷ []) (leaf (kind.Bars (barcode A Codabar read)))
@@ -142,9 +151,11 @@ abbrev pub command_of : Ending → List ℕ → Command
 command_of (ending.Bars form symbology) content = kind.Bars (barcode form symbology content)
 command_of (ending.Raster scale width height) dots = kind.Raster (picture scale width height dots)
 command_of ending.QrStore bytes = kind.QrStore bytes
+command_of ending.TabStops columns = kind.TabStops columns
 
 -- The state has content or dots after the bytes that lead to it.
 abbrev pub has_content : State → Bool
+has_content (state.TabStops most before) = true
 has_content (state.PlainContent symbology most) = true
 has_content (state.CodabarContent most) = true
 has_content state.CodabarEnd = true

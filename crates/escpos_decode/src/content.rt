@@ -18,18 +18,22 @@ pub fn bars_mode(byte: u8) -> Next
 {
     match byte {
         0 => form_a(Symbology::UpcA, 12),
+        1 => Next::To(State::UpceFirst),
         2 => form_a(Symbology::Ean13, 13),
         3 => form_a(Symbology::Ean8, 8),
         4 => form_a(Symbology::Code39, 255),
         5 => form_a(Symbology::Itf, 254),
         6 => Next::To(State::CodabarFirst),
         65 => form_b(Symbology::UpcA),
+        66 => form_b(Symbology::UpcE),
         67 => form_b(Symbology::Ean13),
         68 => form_b(Symbology::Ean8),
         69 => form_b(Symbology::Code39),
         70 => form_b(Symbology::Itf),
         71 => form_b(Symbology::Codabar),
+        72 => form_b(Symbology::Code93),
         73 => form_b(Symbology::Code128),
+        74 => form_b(Symbology::Gs1Code128),
         _ => Next::Refused,
     }
 }
@@ -84,6 +88,25 @@ fn is_one_more(most: u8, passes: bool) -> bool
     most > 0 && passes
 }
 
+/// The first byte of a content of UPC-E in form A. Content of more than six digits begins with 0.
+pub fn upce_first(byte: u8) -> Next
+    ensures { NextIs result state.UpceFirst [] byte }
+{
+    if byte == b'0' {
+        Next::Grow(State::PlainContent {
+            symbology: Symbology::UpcE,
+            most: 11,
+        })
+    } else if is_digit(byte) {
+        Next::Grow(State::PlainContent {
+            symbology: Symbology::UpcE,
+            most: 5,
+        })
+    } else {
+        Next::Refused
+    }
+}
+
 /// The first byte of a content of CODABAR in form A.
 pub fn codabar_first(byte: u8) -> Next
     ensures { NextIs result state.CodabarFirst [] byte }
@@ -114,6 +137,23 @@ pub fn codabar_end(byte: u8) -> Next
 {
     if byte == 0 {
         Next::Closes(Ending::Bars(Form::A, Symbology::Codabar))
+    } else {
+        Next::Refused
+    }
+}
+
+/// A column of tab stops, greater than the one before it, or the 00 after them.
+pub fn tab_stop(most: u8, before: u8, byte: u8) -> Next
+    ensures { (read : List ℕ) → NextIs result (state.TabStops most before) read byte }
+{
+    if byte == 0 {
+        return Next::Closes(Ending::TabStops);
+    }
+    if is_one_more(most, byte > before) {
+        Next::Grow(State::TabStops {
+            most: most - 1,
+            before: byte,
+        })
     } else {
         Next::Refused
     }

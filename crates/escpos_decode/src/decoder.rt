@@ -20,7 +20,7 @@ ghost use Rattle.escpos_decode.specs.declared.decoder.Step.TheVariants.{Done};
 
 use crate::state::{Ending, Next, State};
 use escpos_command::{
-    Bars, Character, Command, FaultReason, QrData, Raster, Setting, SettingKind, laws,
+    Bars, Character, Command, FaultReason, QrData, Raster, Setting, SettingKind, TabStops, laws,
 };
 use std::alloc::{AllocError, Global};
 use std::marker::Model;
@@ -85,9 +85,9 @@ pub enum DecodeFault {
     /// No spelling begins with the half command and this byte. `at` is the number of bytes of the half command before it.
     /// The half command is dropped, and the next byte is read as the start of a command.
     Fault { at: usize, why: FaultReason },
-    /// Out of memory for the content of a barcode, the dots of a raster or the data of a QR code. The decoder is unchanged
-    /// and the byte isn't taken. It comes only for a byte that isn't refused, and only within a barcode, a raster or a
-    /// function of GS ( k.
+    /// Out of memory for the content of a barcode, the dots of a raster, the data of a QR code or tab stops. The decoder is
+    /// unchanged and the byte isn't taken. It comes only for a byte that isn't refused, and only within a barcode, a raster,
+    /// tab stops or a function of GS ( k.
     Memory,
 }
 
@@ -432,6 +432,10 @@ fn end(content: &mut Vec<u8>, ending: Ending, alloc: Global) -> Command
         },
         Ending::QrStore => match QrData::new(content) {
             Ok(stored) => Command::QrStore(stored),
+            Err(_) => unreachable!(),
+        },
+        Ending::TabStops => match TabStops::new(content) {
+            Ok(stops) => Command::TabStops(stops),
             Err(_) => unreachable!(),
         },
     }

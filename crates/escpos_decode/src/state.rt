@@ -20,8 +20,8 @@ ghost use Rattle.escpos_decode.specs.declared.state.Next.TheVariants as next;
 use crate::one_parameter::OneParameter;
 use crate::{content, qr};
 use escpos_command::{
-    CR, Character, Command, Cut, DLE, EOT, ESC, FaultReason, Form, GS, LF, MarkId, OldCut, Pulse,
-    Setting, SettingKind, Symbology, is_mark_byte,
+    CR, Character, Command, Cut, DLE, EOT, ESC, FaultReason, Form, GS, HT, LF, MarkId, OldCut,
+    Position, PositionKind, Pulse, Setting, SettingKind, Symbology, is_mark_byte,
 };
 
 /// A state in the command table between two bytes.
@@ -48,6 +48,18 @@ pub enum State {
     Setting(SettingKind),
     /// After another letter with one parameter.
     Parameter(OneParameter),
+    /// After the letters of a position: the low byte of its number.
+    PositionLow(PositionKind),
+    /// The high byte of its number.
+    PositionHigh {
+        kind: PositionKind,
+        low: u8,
+    },
+    /// After ESC D: a column greater than `before`, of which at most `most` follow, or 00.
+    TabStops {
+        most: u8,
+        before: u8,
+    },
     /// After ESC p: the pin.
     PulsePin,
     /// After ESC p and the pin: how long the pulse is on.
@@ -99,6 +111,8 @@ pub enum State {
         symbology: Symbology,
         most: u8,
     },
+    /// The first byte of a content of UPC-E in form A.
+    UpceFirst,
     /// The first byte of a content of CODABAR in form A.
     CodabarFirst,
     /// In the rest of that content. At most `most` bytes come before its last.
@@ -187,6 +201,7 @@ pub enum Ending {
     Bars(Form, Symbology),
     Raster { scale: u8, width: u8, height: u16 },
     QrStore,
+    TabStops,
 }
 
 /// Where a byte leads from a state.
@@ -227,6 +242,9 @@ impl State {
             State::Letters { first, second } => third_letter(first, second, byte),
             State::Setting(kind) => setting_parameter(kind, byte),
             State::Parameter(letter) => done(letter.command(byte)),
+            State::PositionLow(kind) => Next::To(State::PositionHigh { kind, low: byte }),
+            State::PositionHigh { kind, low } => position(kind, low, byte),
+            State::TabStops { most, before } => content::tab_stop(most, before, byte),
             State::PulsePin => pulse_pin(byte),
             State::PulseOn { pin } => Next::To(State::PulseOff { pin, on: byte }),
             State::PulseOff { pin, on } => done(Pulse::new(pin, on, byte).map(Command::Pulse)),
@@ -249,6 +267,7 @@ impl State {
             State::PlainContent { symbology, most } => content::plain(
                 symbology, most, content, byte,
             ),
+            State::UpceFirst => content::upce_first(byte),
             State::CodabarFirst => content::codabar_first(byte),
             State::CodabarContent { most } => content::codabar(most, byte),
             State::CodabarEnd => content::codabar_end(byte),
@@ -300,15 +319,19 @@ impl State {
             State::Parameter(letter) => letter.prefix_len(),
             State::Setting(kind) => kind.prefix().len(),
             State::Letters { .. }
+            | State::PositionLow(_)
+            | State::TabStops { .. }
             | State::PulsePin
             | State::CutMode
             | State::Bracket
             | State::BarsMode
             | State::RasterFunction => 2,
-            State::PulseOn { .. }
+            State::PositionHigh { .. }
+            | State::PulseOn { .. }
             | State::CutFeed { .. }
             | State::MarkLengthLow
             | State::PlainContent { .. }
+            | State::UpceFirst
             | State::CodabarFirst
             | State::CodabarContent { .. }
             | State::CodabarEnd
@@ -354,6 +377,7 @@ impl State {
             | State::QrFunction { .. } => FaultReason::UnknownCommand,
             State::Letters { .. } => FaultReason::UnknownCommand,
             State::PlainContent { .. }
+            | State::UpceFirst
             | State::CodabarFirst
             | State::CodabarContent { .. }
             | State::CodabarEnd
@@ -399,6 +423,7 @@ fn start(byte: u8) -> Next
     ensures { (read : List ℕ) → NextIs result state.Start read byte }
 {
     match byte {
+        HT => Next::Done(Command::Tab),
         LF => Next::Done(Command::LineFeed),
         CR => Next::Done(Command::Return),
         DLE => Next::To(State::Dle),
@@ -440,10 +465,24 @@ fn after_esc(byte: u8) -> Next
         b'@' => Next::Done(Command::Init),
         b'J' => Next::To(State::Parameter(OneParameter::FeedUnits)),
         b'd' => Next::To(State::Parameter(OneParameter::FeedLines)),
+        b'$' => Next::To(State::PositionLow(PositionKind::Absolute)),
+        b'\\' => Next::To(State::PositionLow(PositionKind::Relative)),
+        b'D' => Next::To(State::TabStops {
+            most: 32,
+            before: 0,
+        }),
         b'p' => Next::To(State::PulsePin),
         b'i' | b'm' => old_cut(byte),
         _ => after_letters(ESC, byte),
     }
+}
+
+// The high byte of a position's number.
+fn position(kind: PositionKind, low: u8, high: u8) -> Next
+    ensures { (read : List ℕ) → NextIs result (state.PositionHigh kind low) read high }
+{
+    let units = u16::from_le_bytes([low, high]);
+    Next::Done(Command::Position(Position::new(kind, units)))
 }
 
 // The letter of an older cut.
@@ -462,7 +501,9 @@ fn after_gs(byte: u8) -> Next
 {
     match byte {
         b'(' => Next::To(State::Bracket),
+        b'L' => Next::To(State::PositionLow(PositionKind::LeftMargin)),
         b'V' => Next::To(State::CutMode),
+        b'W' => Next::To(State::PositionLow(PositionKind::AreaWidth)),
         b'a' => Next::To(State::Parameter(OneParameter::AutomaticStatus)),
         b'k' => Next::To(State::BarsMode),
         b'v' => Next::To(State::RasterFunction),

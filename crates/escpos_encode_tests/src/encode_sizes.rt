@@ -20,6 +20,8 @@ fn encodes_long(rt: &impl Abort, alloc: Global, (count, text, line): Long, statu
 
 const UPCA: [&str; 3] = ["[{\"bars\":{\"kind\":\"upca\",\"content\":\"", "0", "\"}}]"];
 
+const UPCE: [&str; 3] = ["[{\"bars\":{\"kind\":\"upce\",\"content\":\"", "0", "\"}}]"];
+
 const EAN13: [&str; 3] = [
     "[{\"bars\":{\"kind\":\"ean13\",\"content\":\"",
     "0",
@@ -42,18 +44,39 @@ const CODABAR: [&str; 3] = [
     "d\"}}]",
 ];
 
+const CODE93: [&str; 3] = [
+    "[{\"bars\":{\"kind\":\"code93\",\"content\":\"",
+    "Z",
+    "\"}}]",
+];
+
 const CODE128: [&str; 3] = [
     "[{\"bars\":{\"kind\":\"code128\",\"content\":\"{B",
     "a",
     "\"}}]",
 ];
 
+const GS1: [&str; 3] = [
+    "[{\"bars\":{\"kind\":\"gs1_128\",\"content\":\"(",
+    "12",
+    ")\"}}]",
+];
+
+// UPC-A for which no UPC-E stands.
+const NOT_SHORT: [&str; 3] = [
+    "[{\"bars\":{\"kind\":\"upce\",\"content\":\"",
+    "05",
+    "\"}}]",
+];
+
 const ENTRIES: [&str; 3] = ["[", "{\"feed\":1},", "{\"feed\":1}]"];
 
 // A barcode of each symbology, at its shortest content and at the longest that fits on a line.
-const BARCODES: [Long; 14] = [
+const BARCODES: [Long; 20] = [
     (11, UPCA, ["1d6b410b", "30", "\n"]),
     (12, UPCA, ["1d6b410c", "30", "\n"]),
+    (6, UPCE, ["1d6b4206", "30", "\n"]),
+    (12, UPCE, ["1d6b420c", "30", "\n"]),
     (12, EAN13, ["1d6b430c", "30", "\n"]),
     (13, EAN13, ["1d6b430d", "30", "\n"]),
     (7, EAN8, ["1d6b4407", "30", "\n"]),
@@ -66,12 +89,16 @@ const BARCODES: [Long; 14] = [
     (12, CODABAR, ["1d6b470e41", "31", "64\n"]),
     (1, CODE128, ["1d6b49037b42", "61", "\n"]),
     (12, CODE128, ["1d6b490e7b42", "61", "\n"]),
+    (1, CODE93, ["1d6b4801", "5a", "\n"]),
+    (14, CODE93, ["1d6b480e", "5a", "\n"]),
+    (1, GS1, ["1d6b4a0428", "3132", "29\n"]),
+    (11, GS1, ["1d6b4a1828", "3132", "29\n"]),
 ];
 
 const NOT_PRINTABLE: [&str; 3] = ["refused 10 NotPrintable 0\n", "", ""];
 
-// The shortest that don't fit, the longest, and CODE128 without data.
-const WIDE_BARCODES: [Long; 9] = [
+// The shortest that don't fit, the longest, CODE128 and GS1-128 without data, and UPC-A for which no UPC-E stands.
+const WIDE_BARCODES: [Long; 15] = [
     (10, CODE39, NOT_PRINTABLE),
     (255, CODE39, NOT_PRINTABLE),
     (10, ITF, NOT_PRINTABLE),
@@ -81,6 +108,12 @@ const WIDE_BARCODES: [Long; 9] = [
     (13, CODE128, NOT_PRINTABLE),
     (253, CODE128, NOT_PRINTABLE),
     (0, CODE128, NOT_PRINTABLE),
+    (15, CODE93, NOT_PRINTABLE),
+    (255, CODE93, NOT_PRINTABLE),
+    (12, GS1, NOT_PRINTABLE),
+    (126, GS1, NOT_PRINTABLE),
+    (0, GS1, NOT_PRINTABLE),
+    (6, NOT_SHORT, NOT_PRINTABLE),
 ];
 
 // The largest raster.

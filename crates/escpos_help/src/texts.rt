@@ -79,7 +79,7 @@ of a printer that knows them may differ.
       that isn't here is refused, too, below 20, or after 10, 1B, 1B 63, 1C, 1D
       or 1D 28.
 
-          09        HT      refused: tab stops
+          09        HT      taken
           0A        LF      taken
           0C        FF      refused: page mode
           0D        CR      taken
@@ -88,7 +88,7 @@ of a printer that knows them may differ.
           10 14     DLE DC4 refused: done ahead of its place in the stream
           18        CAN     refused: page mode
           1B 0C     ESC FF  refused: page mode
-          1B 24     ESC $   refused: positions in the line
+          1B 24     ESC $   taken
           1B 25     ESC %   refused: characters that the host defines
           1B 26     ESC &   refused: characters that the host defines
           1B 28     ESC (   refused: the buzzer
@@ -98,16 +98,15 @@ of a printer that knows them may differ.
           1B 40     ESC @   taken
           1B 41     ESC A   refused: of few printers
           1B 42     ESC B   refused: a buzzer
-          1B 44     ESC D   refused: tab stops
+          1B 44     ESC D   taken
           1B 4A     ESC J   taken
           1B 4B     ESC K   refused: feeds backwards
           1B 4C     ESC L   refused: page mode
           1B 51     ESC Q   refused: of few printers
           1B 53     ESC S   refused: page mode
           1B 54     ESC T   refused: page mode
-          1B 56     ESC V   refused: turned characters
           1B 57     ESC W   refused: page mode
-          1B 5C     ESC \\   refused: positions in the line
+          1B 5C     ESC \\   taken
           1B 63 30  ESC c 0 refused: of few printers
           1B 63 31  ESC c 1 refused: of few printers
           1B 64     ESC d   taken
@@ -159,12 +158,12 @@ of a printer that knows them may differ.
           1D 43     GS C    refused: counters of the machine
           1D 44     GS D    refused: images that the machine keeps
           1D 49     GS I    refused: an answer that the line has no use for
-          1D 4C     GS L    refused: margins
+          1D 4C     GS L    taken
           1D 50     GS P    refused: other motion units
           1D 51     GS Q    refused: an image in another form than GS v 0
-          1D 54     GS T    refused: positions in the line
+          1D 54     GS T    refused: goes to the line's beginning
           1D 56     GS V    taken
-          1D 57     GS W    refused: margins
+          1D 57     GS W    taken
           1D 5C     GS \\    refused: page mode
           1D 5E     GS ^    refused: macros
           1D 61     GS a    taken
@@ -200,11 +199,15 @@ pub const HELP_END: &str = "
       A style is [F,W,H,B,U,T]: font A or B, width, height, emphasis 1 or 0,
       underline 0 to 2, code table. It stands before a character whose style
       differs from that of the one before it, or, for the first of a row, from
-      the style at power-on, [A,1,1,0,0,0]. With double strike, white on black
-      or a character set other than 0 it is [F,W,H,B,U,T,S,R,C]: 1 or 0 for each
-      of the first two, and the number of the set. A row that is upside down is
+      the style at power-on, [A,1,1,0,0,0]. Where more is set it is
+      [F,W,H,B,U,T,S,R,C,N,K,1]: 1 or 0 for double strike and white on black,
+      the character set, the space to the right in dots, the colour, and 1 for
+      turned; zeros at its end after C are left out. A row that is upside down is
       `row ALIGN upside CELLS`, and a feed with a line spacing of M motion units
-      is `feed N spacing M`.
+      is `feed N spacing M`. `@D` stands before a character that doesn't follow
+      the one before it: its left edge is at dot D, in a row at the left. ALIGN
+      is followed by ` margin M` and ` width W` where these are set, but in a
+      row at the left that isn't upside down.
 
       A barcode is `bars ALIGN SYMBOLOGY HEIGHT MODULE PLACE FONT CONTENT`: its
       height and module width in dots, where its text stands and in which font,
@@ -283,8 +286,9 @@ pub const HELP_END: &str = "
                                      or \"both\"
           {\"hri_font\":\"B\"}           its font, \"A\" or \"B\"
           {\"bars\":{\"kind\":\"ean13\",\"content\":\"400638133393\"}}
-                                     a barcode: \"upca\", \"ean13\", \"ean8\",
-                                     \"code39\", \"itf\", \"codabar\" or \"code128\"
+                                     a barcode: \"upca\", \"upce\", \"ean13\",
+                                     \"ean8\", \"code39\", \"itf\", \"codabar\",
+                                     \"code93\", \"code128\" or \"gs1_128\"
           {\"raster\":{\"scale\":\"normal\",\"x\":1,\"y\":2,\"dots\":\"f00f\"}}
                                      an image of x bytes, 1 to 128, in each of y
                                      rows, 1 to 4095; \"normal\", \"wide\", \"tall\"

@@ -11,6 +11,7 @@ use Rattle.escpos_job_parts.specs.RealTimeNotes.{is_hiding}
 -- A command that is none itself hides what its bytes hold.
 pub hides_what_it_holds : (c : Command) → ((n : ℕ) → c ≡ kind.Status n → ⊥) → is_hiding c ≡ holds (row c)
 hides_what_it_holds (kind.Char b) other = refl
+hides_what_it_holds kind.Tab other = refl
 hides_what_it_holds kind.LineFeed other = refl
 hides_what_it_holds kind.Return other = refl
 hides_what_it_holds kind.Init other = refl
@@ -18,6 +19,8 @@ hides_what_it_holds (kind.Set s) other = refl
 hides_what_it_holds (kind.AutomaticStatus n) other = refl
 hides_what_it_holds (kind.FeedLines n) other = refl
 hides_what_it_holds (kind.FeedUnits n) other = refl
+hides_what_it_holds (kind.Position p) other = refl
+hides_what_it_holds (kind.TabStops columns) other = refl
 hides_what_it_holds (kind.Pulse pulse) other = refl
 hides_what_it_holds (kind.Bars bars) other = refl
 hides_what_it_holds (kind.Raster raster) other = refl

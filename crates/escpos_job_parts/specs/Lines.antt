@@ -9,15 +9,25 @@ use Rattle.hex.specs.Hex.{encode_lower}
 use Rattle.escpos_command.specs.declared.bytes.TheConstants.{LF}
 use Rattle.escpos_command.specs.declared.command.Command.{Command}
 use Rattle.escpos_command.specs.declared.command.Command.TheVariants as kind
+use Rattle.escpos_command.specs.declared.parameter.position.PositionKind.{PositionKind}
+use Rattle.escpos_command.specs.declared.parameter.position.PositionKind.TheVariants as position
 use Rattle.escpos_command.specs.Reference.{name_of}
 use Rattle.escpos_command.specs.declared.fault.FaultReason.{FaultReason}
 use Rattle.escpos_command.specs.Places.{reason_number, reason_name}
 use Rattle.escpos_command.specs.CommandTable.{row, entry_of}
 use Rattle.escpos_job_parts.specs.declared.lines.TheConstants.{SPACE}
 
+-- The name of a position.
+abbrev pub position_word : PositionKind → List ℕ
+position_word position.Absolute = codes "position"
+position_word position.Relative = codes "move"
+position_word position.LeftMargin = codes "margin"
+position_word position.AreaWidth = codes "width"
+
 -- The name of a command.
 abbrev pub word_of : Command → List ℕ
 word_of (kind.Char b) = codes "char"
+word_of kind.Tab = codes "tab"
 word_of kind.LineFeed = codes "lf"
 word_of kind.Return = codes "cr"
 word_of kind.Init = codes "init"
@@ -25,6 +35,8 @@ word_of (kind.Set s) = name_of s.0
 word_of (kind.AutomaticStatus n) = codes "autostatus"
 word_of (kind.FeedLines n) = codes "feed"
 word_of (kind.FeedUnits n) = codes "units"
+word_of (kind.Position p) = position_word p.0
+word_of (kind.TabStops columns) = codes "tabstops"
 word_of (kind.Pulse pulse) = codes "pulse"
 word_of (kind.Bars bars) = codes "bars"
 word_of (kind.Raster raster) = codes "raster"
@@ -43,12 +55,14 @@ abbrev pub byte_value : ℕ → List ℕ
 byte_value n = SPACE ∷ encode_lower (n ∷ [])
 
 -- What follows the name: the parameter bytes as sent. The id of a mark stands as it is, since its bytes can be
--- printed. A barcode has its mode and its content, a raster its scale, width and height, and a store of QR codes its data.
+-- printed. A barcode has its mode and its content, a raster its scale, width and height, a store of QR codes its data, and tab stops their
+-- columns.
 abbrev pub values_of : Command → List ℕ
 values_of (kind.Mark id) = SPACE ∷ id
 values_of (kind.Bars bars) = byte_value (barcode_mode bars.form bars.symbology) ++ SPACE ∷ encode_lower bars.content
 values_of (kind.Raster raster) = byte_value raster.scale ++ SPACE ∷ decimal raster.width ++ SPACE ∷ decimal raster.height
 values_of (kind.QrStore stored) = SPACE ∷ encode_lower stored
+values_of (kind.TabStops columns) = flat_map byte_value columns
 values_of c = flat_map byte_value (entry_of c).parameters
 
 -- The line of a command: the number of bytes before it, its name, and what it carries; and the note on its check digit, if there is one.

@@ -1,8 +1,8 @@
 //! The lines of a listing, appended to the bytes that a gather keeps back.
 
-ghost use Rattle.std.specs.Prelude.{◌≡◌, ◌≢◌, ◌+◌, ◌/◌, ◌≤◌, ◌++◌, ◌∷◌, ℕ, List, length, codes, decimal};
+ghost use Rattle.std.specs.Prelude.{◌≡◌, ◌≢◌, ◌+◌, ◌*◌, ◌/◌, ◌≤◌, ◌++◌, ◌∷◌, ℕ, List, length, codes, decimal};
 ghost use Rattle.std.specs.List.{flat_map};
-ghost use Rattle.escpos_job_parts.specs.Lines.{byte_value, command_line, end_line, fault_line, own_line, values_of, word_of};
+ghost use Rattle.escpos_job_parts.specs.Lines.{byte_value, command_line, end_line, fault_line, own_line, position_word, values_of, word_of};
 ghost use Rattle.escpos_job_parts.specs.LastText.{last_text};
 ghost use Rattle.escpos_job_parts.specs.Notes.{note_line};
 ghost use Rattle.escpos_command.specs.declared.command.Command.TheVariants as kind;
@@ -14,7 +14,7 @@ use crate::ending::MEMORY;
 use crate::notes::{WrongDigit, wrong_digit};
 use crate::places::PlaceText;
 use crate::real_time::put_note;
-use escpos_command::{Bars, Command, FaultReason, LF, QrData, Raster};
+use escpos_command::{Bars, Command, FaultReason, LF, PositionKind, QrData, Raster};
 use escpos_io::{
     ByteOut, Device, GATHERED_BYTES, Gather, Piece, append_digits_after, append_number,
     append_small_number, put_digits,
@@ -208,6 +208,7 @@ fn word(command: &Command) -> &'static [u8]
 {
     match command {
         Command::Char(_) => b"char",
+        Command::Tab => b"tab",
         Command::LineFeed => b"lf",
         Command::Return => b"cr",
         Command::Init => b"init",
@@ -215,6 +216,8 @@ fn word(command: &Command) -> &'static [u8]
         Command::AutomaticStatus(_) => b"autostatus",
         Command::FeedLines(_) => b"feed",
         Command::FeedUnits(_) => b"units",
+        Command::Position(position) => position_word(position.kind()),
+        Command::TabStops(_) => b"tabstops",
         Command::Pulse(_) => b"pulse",
         Command::Bars(_) => b"bars",
         Command::Raster(_) => b"raster",
@@ -227,6 +230,19 @@ fn word(command: &Command) -> &'static [u8]
         Command::OldCut(_) => b"oldcut",
         Command::Status(_) => b"status",
         Command::Mark(_) => b"mark",
+    }
+}
+
+// The name of a position.
+fn position_word(kind: PositionKind) -> &'static [u8]
+    ensures value { result.now ≡ position_word kind }
+    ensures short { length result.now ≤ 15 }
+{
+    match kind {
+        PositionKind::Absolute => b"position",
+        PositionKind::Relative => b"move",
+        PositionKind::LeftMargin => b"margin",
+        PositionKind::AreaWidth => b"width",
     }
 }
 
@@ -247,6 +263,7 @@ fn append_values(gather: &mut Gather, command: &Command)
         }
         Command::Bars(bars) => append_bars(gather, bars),
         Command::Raster(raster) => append_raster(gather, raster),
+        Command::TabStops(stops) => append_bytes(gather, stops.as_slice()),
         _ => append_bytes(gather, command.parts().parameters.as_slice()),
     }
 }
@@ -293,11 +310,10 @@ fn append_raster(gather: &mut Gather, raster: &Raster)
 
 /// Appends a space and two digits for each byte.
 pub fn append_bytes(gather: &mut Gather, bytes: &[u8])
-    requires few { length bytes.now ≤ 5 }
-    requires room { length gather.old.kept + 15 ≤ GATHERED_BYTES }
+    requires room { length gather.old.kept + 3 * length bytes.now ≤ GATHERED_BYTES }
     ensures kept { gather.new.kept ≡ gather.old.kept ++ flat_map byte_value bytes.now }
     ensures same_count { gather.new.written ≡ gather.old.written }
-    ensures short { length (flat_map byte_value bytes.now) ≤ 15 }
+    ensures short { length (flat_map byte_value bytes.now) ≡ 3 * length bytes.now }
 {
     for byte in bytes {
         append_byte(gather, *byte);

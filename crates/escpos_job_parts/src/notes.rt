@@ -6,7 +6,7 @@ ghost use Rattle.std.specs.Prelude.{◌≡◌, ◌≤◌, Option};
 ghost use Rattle.escpos_job_parts.specs.Notes.{has_check_digit, wrong_digit};
 
 use escpos_command::{Bars, Symbology};
-use escpos_paper::check_digit;
+use escpos_paper::check_digit_of;
 
 /// A check digit that isn't the one of the digits before it, and the right one: numbers 0 to 9.
 #[derive(Clone, Copy, Debug, PartialEq, Eq)]
@@ -25,7 +25,7 @@ pub fn wrong_digit(bars: &Bars) -> Option<WrongDigit>
     }
     let last = content.len() - 1;
     let given = content[last] - b'0';
-    let right = check_digit(&content[..last]);
+    let right = check_digit_of(bars.symbology(), &content[..last]);
     if given == right {
         None
     } else {
@@ -39,6 +39,9 @@ fn has_check_digit(symbology: Symbology, length: usize) -> bool
 {
     matches!(
         (symbology, length),
-        (Symbology::UpcA, 12) | (Symbology::Ean13, 13) | (Symbology::Ean8, 8)
+        (Symbology::UpcA, 12)
+            | (Symbology::UpcE, 8 | 12)
+            | (Symbology::Ean13, 13)
+            | (Symbology::Ean8, 8)
     )
 }

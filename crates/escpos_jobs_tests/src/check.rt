@@ -25,10 +25,10 @@ const CHECKED: [Row; 19] = [
     (b"1B 61 03", b"fault 2 3 BadParameter\n", Status::Refused),
     (b"1B 61 32", b"0 align 32\nend 3 pending 0\n", Status::Good),
     // unknown_bytes
-    (b"1B 24", b"fault 1 2 UnknownCommand\n", Status::Refused),
+    (b"1B 26", b"fault 1 2 UnknownCommand\n", Status::Refused),
     (b"06", b"fault 0 1 UnknownByte\n", Status::Refused),
     (
-        b"1B 40 1B 24",
+        b"1B 40 1B 26",
         b"0 init\nfault 3 2 UnknownCommand\n",
         Status::Refused,
     ),
@@ -120,7 +120,7 @@ fn real_time_noted(rt: HostRuntime) {
     assert!(&rt; performs_rows(rt.alloc(), check_task(), &CHECKED_REAL_TIME, &[1, 5, 4096]));
 }
 
-const CHECKED_CONTENTS: [Row; 27] = [
+const CHECKED_CONTENTS: [Row; 31] = [
     // ean13
     (
         b"1D 6B 02 34 30 30 36 33 38 31 33 33 33 39 33 00",
@@ -157,6 +157,28 @@ const CHECKED_CONTENTS: [Row; 27] = [
         b"1D 6B 44 08 35 35 31 32 33 34 35 30",
         b"0 bars 44 3535313233343530\nnote 0 check digit 0, right 7\nend 12 pending 0\n",
         Status::Good,
+    ),
+    // of UPC-E, whose check digit is that of UPC-A 012345000065
+    (
+        b"1D 6B 42 08 30 31 32 33 34 35 36 30",
+        b"0 bars 42 3031323334353630\nnote 0 check digit 0, right 5\nend 12 pending 0\n",
+        Status::Good,
+    ),
+    (
+        b"1D 6B 01 30 31 32 33 34 35 36 35 00",
+        b"0 bars 01 3031323334353635\nend 12 pending 0\n",
+        Status::Good,
+    ),
+    // six digits, or more after 0
+    (
+        b"1D 6B 01 31 32 33 34 35 36 37",
+        b"fault 9 4 BadBarcode\n",
+        Status::Refused,
+    ),
+    (
+        b"1D 6B 42 07 31",
+        b"fault 4 4 BadBarcode\n",
+        Status::Refused,
     ),
     // ean8_lengths
     (
@@ -220,7 +242,7 @@ const CHECKED_CONTENTS: [Row; 27] = [
     // the letter and the scale of a raster, and the mode of a barcode
     (b"1D 76 31", b"fault 2 2 UnknownCommand\n", Status::Refused),
     (b"1D 76 30 04", b"fault 3 3 BadParameter\n", Status::Refused),
-    (b"1D 6B 01", b"fault 2 3 BadParameter\n", Status::Refused),
+    (b"1D 6B 07", b"fault 2 3 BadParameter\n", Status::Refused),
     (b"1D 6B 49 01", b"fault 3 4 BadBarcode\n", Status::Refused),
     // units_and_pulse
     (
@@ -297,26 +319,60 @@ const CHECKED_STYLES: [Row; 25] = [
     // letters beside those that are taken
     (b"1B 31", b"fault 1 2 UnknownCommand\n", Status::Refused),
     (b"1B 34", b"fault 1 2 UnknownCommand\n", Status::Refused),
-    (b"1B 56 01", b"fault 1 2 UnknownCommand\n", Status::Refused),
-    (b"1B 44 01", b"fault 1 2 UnknownCommand\n", Status::Refused),
+    (b"1B 57 01", b"fault 1 2 UnknownCommand\n", Status::Refused),
+    (b"1B 4B 01", b"fault 1 2 UnknownCommand\n", Status::Refused),
     (b"1B 72 02", b"fault 2 3 BadParameter\n", Status::Refused),
     (
-        b"1D 4C 00 00",
+        b"1D 50 00 00",
         b"fault 1 2 UnknownCommand\n",
         Status::Refused,
     ),
     (
-        b"1D 57 00 02",
+        b"1D 54 00 02",
         b"fault 1 2 UnknownCommand\n",
         Status::Refused,
     ),
     (b"1D 7C 00", b"fault 1 2 UnknownCommand\n", Status::Refused),
-    (b"09", b"fault 0 1 UnknownByte\n", Status::Refused),
+    (b"0B", b"fault 0 1 UnknownByte\n", Status::Refused),
 ];
 
 #[test]
 fn styles_in_check(rt: HostRuntime) {
     assert!(&rt; performs_rows(rt.alloc(), check_task(), &CHECKED_STYLES, &[1, 4096]));
+}
+
+// Positions and tab stops: the bytes of a number as sent, and the columns without the 00 that ends them.
+const CHECKED_POSITIONS: [Row; 9] = [
+    (b"09", b"0 tab\nend 1 pending 0\n", Status::Good),
+    (
+        b"1B 24 2C 01 1B 5C F4 FF",
+        b"0 position 2c 01\n4 move f4 ff\nend 8 pending 0\n",
+        Status::Good,
+    ),
+    (
+        b"1D 4C 18 00 1D 57 00 02",
+        b"0 margin 18 00\n4 width 00 02\nend 8 pending 0\n",
+        Status::Good,
+    ),
+    (
+        b"1B 44 08 10 00 1B 44 00",
+        b"0 tabstops 08 10\n5 tabstops\nend 8 pending 0\n",
+        Status::Good,
+    ),
+    (
+        b"1B 56 31 1B 56 00",
+        b"0 turned 31\n3 turned 00\nend 6 pending 0\n",
+        Status::Good,
+    ),
+    (b"1B 44 08 08", b"fault 3 3 BadParameter\n", Status::Refused),
+    (b"1B 56 03", b"fault 2 3 BadParameter\n", Status::Refused),
+    (b"1B 44 08", b"end 3 pending 3\n", Status::Refused),
+    (b"1D 57 00", b"end 3 pending 3\n", Status::Refused),
+];
+
+#[test]
+fn positions_in_check(rt: HostRuntime) {
+    assert!(&rt; performs_rows(rt.alloc(), check_task(), &CHECKED_POSITIONS, &[1, 4096]));
 }
 
 // Each proper prefix of row ean13's first stream is a half command.

@@ -337,6 +337,168 @@ fn is_drawn(rt: &impl Abort, alloc: Global, row: Drawn) {
     draws(rt, alloc, draw_task(), row);
 }
 
+// Places, margins and turned characters.
+const PLACED: [Drawn; 11] = [
+    // characters of one style are two texts where the second has a place of its own
+    (
+        "41 1B 24 64 00 42 43 0A",
+        "94",
+        "94",
+        "<g class=\"row\" transform=\"translate(32,50)\"><text x=\"0\" textLength=\"12\">A</text>\
+         <text x=\"100\" textLength=\"24\">BC</text></g>\n<g class=\"feed\"/>\n",
+    ),
+    // one over another, underlined where it stands
+    (
+        "41 1B 24 00 00 1B 2D 01 2F 0A",
+        "94",
+        "94",
+        "<g class=\"row\" transform=\"translate(32,50)\"><text x=\"0\" textLength=\"12\">A</text>\
+         <text x=\"0\" textLength=\"12\">/</text><path d=\"M0 5h12v1h-12z\"/></g>\n<g class=\"feed\"/>\n",
+    ),
+    // a margin of 24 dots; at the right of a printing area of 100, 88 are left free
+    (
+        "1D 4C 18 00 41 0A 1D 57 64 00 1B 61 02 42 0A",
+        "124",
+        "124",
+        "<g class=\"row\" transform=\"translate(56,50)\"><text x=\"0\" textLength=\"12\">A</text></g>\n<g class=\"feed\"/>\n\
+         <g class=\"row\" transform=\"translate(144,80)\"><text x=\"0\" textLength=\"12\">B</text></g>\n<g class=\"feed\"/>\n",
+    ),
+    // a row is as wide as its cells reach: 112 dots, so that 200 are free on either side
+    (
+        "1B 61 01 41 1B 24 64 00 42 0A",
+        "94",
+        "94",
+        "<g class=\"row\" transform=\"translate(232,50)\"><text x=\"0\" textLength=\"12\">A</text>\
+         <text x=\"100\" textLength=\"12\">B</text></g>\n<g class=\"feed\"/>\n",
+    ),
+    // upside down in a printing area: its left end is turned to the right one, 32 + 24 + 100
+    (
+        "1D 4C 18 00 1D 57 64 00 1B 7B 01 41 0A",
+        "94",
+        "94",
+        "<g class=\"row\" transform=\"translate(156,38) rotate(180)\"><text x=\"0\" textLength=\"12\">A</text></g>\n<g class=\"feed\"/>\n",
+    ),
+    // upside down and wider than the printing area: 96 dots, which end at the left end of the line
+    (
+        "1D 57 0A 00 1B 7B 01 1D 21 70 41 0A",
+        "94",
+        "94",
+        "<g class=\"row\" transform=\"translate(128,38) rotate(180)\"><text transform=\"matrix(8 0 0 1 0 0)\" textLength=\"12\">A</text></g>\n<g class=\"feed\"/>\n",
+    ),
+    // a raster in a margin, and one that is wider than what is left of the line: it ends where the line ends
+    (
+        "1D 4C 18 00 1D 76 30 00 01 00 01 00 FF 1D 4C FC 01 1D 76 30 00 01 00 01 00 FF",
+        "66",
+        "66",
+        "<g class=\"raster\" transform=\"translate(56,32)\"><g transform=\"scale(1,1)\">\n<path d=\"M0 0.5h8\"/>\n</g></g>\n\
+         <g class=\"raster\" transform=\"translate(536,33)\"><g transform=\"scale(1,1)\">\n<path d=\"M0 0.5h8\"/>\n</g></g>\n",
+    ),
+    // turned characters: 24 dots wide and 12 high, each a text of its own
+    (
+        "1B 56 01 41 42 0A",
+        "94",
+        "94",
+        "<g class=\"row\" transform=\"translate(32,41)\"><text transform=\"matrix(0 1 -1 0 6 -9)\" textLength=\"12\">A</text>\
+         <text transform=\"matrix(0 1 -1 0 30 -9)\" textLength=\"12\">B</text></g>\n<g class=\"feed\"/>\n",
+    ),
+    // twice as wide: as high as 24 dots
+    (
+        "1D 21 10 1B 56 02 41 1D 21 00 1B 56 00 42 0A",
+        "94",
+        "94",
+        "<g class=\"row\" transform=\"translate(32,50)\"><text transform=\"matrix(0 2 -1 0 6 -18)\" textLength=\"12\">A</text>\
+         <text x=\"24\" textLength=\"12\">B</text></g>\n<g class=\"feed\"/>\n",
+    ),
+    // in font B, 17 dots wide, with a space of 4 dots; no underline
+    (
+        "1B 4D 01 1B 20 04 1B 2D 02 1B 56 01 41 1B 56 00 1B 2D 00 42 0A",
+        "94",
+        "94",
+        "<g class=\"row\" transform=\"translate(32,44.75)\"><text transform=\"matrix(0 1 -1 0 4.25 -6.75)\" class=\"B\" textLength=\"9\">A</text>\
+         <text x=\"21\" class=\"B\" textLength=\"9\">B</text></g>\n<g class=\"feed\"/>\n",
+    ),
+    // white on black: the ground is as wide and as high as the turned character
+    (
+        "1D 42 01 1B 56 01 41 0A",
+        "94",
+        "94",
+        "<g class=\"row\" transform=\"translate(32,41)\"><path d=\"M0 -9h24v12h-24z\"/>\
+         <text transform=\"matrix(0 1 -1 0 6 -9)\" class=\"white\" textLength=\"12\">A</text></g>\n<g class=\"feed\"/>\n",
+    ),
+];
+
+// Barcodes with their text below, 60 dots high; their bars are computed apart from the program, by the tables of the standards.
+const CODES: [Drawn; 6] = [
+    // UPC-E: six digits, each way of zeros by the last one; the number system and the check digit show which sets
+    (
+        "1D 77 03 1D 68 3C 1D 48 02 1D 6B 42 06 31 32 33 34 35 36",
+        "148",
+        "148",
+        "<g class=\"bars\" transform=\"translate(32,32)\">\n<svg y=\"0\" width=\"153\" height=\"60\" viewBox=\"0 0 153 1\" preserveAspectRatio=\"none\">\n\
+         <path d=\"M0 0.5h3m3 0h3m3 0h6m6 0h6m6 0h3m6 0h6m3 0h12m3 0h3m6 0h9m3 0h3m3 0h9m6 0h3m3 0h3m3 0h12m3 0h3m3 0h3m3 0h3\"/>\n</svg>\n\
+         <text class=\"middle\" x=\"76.5\" y=\"78\" textLength=\"96\">01234565</text></g>\n",
+    ),
+    // the same with its number system, and a last digit below 3
+    (
+        "1D 77 02 1D 68 3C 1D 48 02 1D 6B 42 07 30 34 32 35 32 36 31",
+        "148",
+        "148",
+        "<g class=\"bars\" transform=\"translate(32,32)\">\n<svg y=\"0\" width=\"102\" height=\"60\" viewBox=\"0 0 102 1\" preserveAspectRatio=\"none\">\n\
+         <path d=\"M0 0.5h2m2 0h2m4 0h6m2 0h2m4 0h2m4 0h4m2 0h6m4 0h2m4 0h4m2 0h4m2 0h2m2 0h8m4 0h4m4 0h2m2 0h2m2 0h2m2 0h2\"/>\n</svg>\n\
+         <text class=\"middle\" x=\"51\" y=\"78\" textLength=\"96\">04252614</text></g>\n",
+    ),
+    // from the twelve digits of UPC-A
+    (
+        "1D 77 02 1D 68 3C 1D 48 02 1D 6B 42 0C 30 31 32 31 30 30 30 30 33 34 35 34",
+        "148",
+        "148",
+        "<g class=\"bars\" transform=\"translate(32,32)\">\n<svg y=\"0\" width=\"102\" height=\"60\" viewBox=\"0 0 102 1\" preserveAspectRatio=\"none\">\n\
+         <path d=\"M0 0.5h2m2 0h2m2 0h4m4 0h4m4 0h2m4 0h4m2 0h2m8 0h2m4 0h6m2 0h2m2 0h4m6 0h2m4 0h4m4 0h2m2 0h2m2 0h2m2 0h2\"/>\n</svg>\n\
+         <text class=\"middle\" x=\"51\" y=\"78\" textLength=\"96\">01234514</text></g>\n",
+    ),
+    // CODE93 of 22 symbols: the weights of both check characters begin again
+    (
+        "1D 77 02 1D 68 3C 1D 48 02 1D 6B 48 16 52 45 43 45 49 50 54 20 34 32 20 54 41 42 4C 45 20 37 20 4F 4B 2E",
+        "148",
+        "148",
+        "<g class=\"bars\" transform=\"translate(32,32)\">\n<svg y=\"0\" width=\"470\" height=\"60\" viewBox=\"0 0 470 1\" preserveAspectRatio=\"none\">\n\
+         <path d=\"M0 0.5h2m2 0h2m2 0h8m2 0h4m2 0h4m4 0h2m2 0h4m4 0h2m4 0h2m2 0h4m2 0h2m6 0h2m2 0h4m4 0h2m4 0h2m2 0h2m2 0h4m6 0h2m2 0h2m6 0h2m2 0h4m2 0h4m2 0h2m4 0h4m2 0h6m2 0h2m4 0h2m2 0h2m4 0h2m2 0h2m6 0h2m2 0h2m6 0h2m4 0h6m2 0h2m4 0h2m2 0h4m2 0h2m4 0h4m2 0h4m2 0h2m2 0h2m6 0h4m2 0h2m4 0h2m4 0h2m2 0h2m2 0h4m6 0h4m4 0h2m4 0h2m2 0h6m2 0h2m4 0h2m2 0h2m2 0h2m2 0h2m8 0h6m2 0h2m4 0h2m2 0h2m4 0h2m2 0h4m4 0h2m6 0h4m2 0h2m2 0h6m2 0h2m2 0h2m4 0h4m4 0h2m2 0h2m4 0h2m4 0h2m2 0h4m4 0h2m2 0h2m2 0h8m2 0h2\"/>\n</svg>\n\
+         <text class=\"middle\" x=\"235\" y=\"78\" textLength=\"264\">RECEIPT 42 TABLE 7 OK.</text></g>\n",
+    ),
+    // bytes that CODE93 spells by two characters each
+    (
+        "1D 77 02 1D 68 3C 1D 48 02 1D 6B 48 08 61 5A 25 7E 01 21 3F 7B",
+        "148",
+        "148",
+        "<g class=\"bars\" transform=\"translate(32,32)\">\n<svg y=\"0\" width=\"326\" height=\"60\" viewBox=\"0 0 326 1\" preserveAspectRatio=\"none\">\n\
+         <path d=\"M0 0.5h2m2 0h2m2 0h8m2 0h2m4 0h4m4 0h2m2 0h4m2 0h2m2 0h2m6 0h2m4 0h6m2 0h2m2 0h4m2 0h2m2 0h6m2 0h6m2 0h4m2 0h2m2 0h4m2 0h2m2 0h4m4 0h2m4 0h2m4 0h4m2 0h4m2 0h2m2 0h2m6 0h6m2 0h2m2 0h4m2 0h4m2 0h2m2 0h2m6 0h6m2 0h4m2 0h2m2 0h2m4 0h4m2 0h2m4 0h6m2 0h4m2 0h2m2 0h2m6 0h2m2 0h4m2 0h6m2 0h4m2 0h2m2 0h2m2 0h4m2 0h2m6 0h2m2 0h2m2 0h8m2 0h2\"/>\n</svg>\n\
+         <text class=\"middle\" x=\"163\" y=\"78\" textLength=\"96\">aZ%~ !?{</text></g>\n",
+    ),
+    // GS1-128: digits two by two in set C, a letter in set B, FNC1 between two fields
+    (
+        "1D 77 02 1D 68 3C 1D 48 02 1D 6B 4A 1F 28 30 31 29 30 39 35 30 36 30 30 30 31 33 34 33 35 2A 28 31 30 29 41 42 7B 31 28 32 31 29 37",
+        "148",
+        "148",
+        "<g class=\"bars\" transform=\"translate(32,32)\">\n<svg y=\"0\" width=\"444\" height=\"60\" viewBox=\"0 0 444 1\" preserveAspectRatio=\"none\">\n\
+         <path d=\"M0 0.5h4m2 0h2m4 0h6m4 0h8m2 0h2m2 0h6m2 0h4m4 0h4m2 0h4m4 0h4m4 0h2m4 0h2m6 0h4m6 0h2m2 0h6m2 0h6m2 0h8m2 0h2m2 0h4m2 0h4m4 0h4m4 0h2m4 0h4m2 0h6m4 0h2m2 0h4m6 0h6m2 0h4m2 0h6m6 0h2m2 0h4m4 0h2m6 0h2m4 0h2m2 0h8m2 0h6m2 0h2m2 0h2m6 0h4m6 0h2m6 0h2m2 0h4m6 0h8m2 0h2m2 0h6m2 0h4m4 0h6m4 0h2m2 0h2m4 0h6m4 0h4m2 0h6m2 0h4m2 0h6m2 0h2m2 0h2m8 0h4m4 0h4m6 0h6m2 0h2m2 0h4\"/>\n</svg>\n\
+         <text class=\"middle\" x=\"222\" y=\"78\" textLength=\"360\">(01)09506000134352(10)AB (21)7</text></g>\n",
+    ),
+];
+
+#[test]
+fn further_barcodes_in_draw(rt: HostRuntime) {
+    for row in CODES {
+        is_drawn(&rt, rt.alloc(), row);
+    }
+}
+
+#[test]
+fn places_in_draw(rt: HostRuntime) {
+    for row in PLACED {
+        is_drawn(&rt, rt.alloc(), row);
+    }
+}
+
 #[test]
 fn rows_of_draw(rt: HostRuntime) {
     for row in &DRAWN {

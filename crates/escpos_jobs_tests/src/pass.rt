@@ -15,8 +15,8 @@ const LISTED: [Row; 7] = [
         Status::Good,
     ),
     (
-        b"\x09\x18",
-        b"0 passed HT\n1 passed CAN\nend 2 pending 0\n",
+        b"\x0C\x18",
+        b"0 passed FF\n1 passed CAN\nend 2 pending 0\n",
         Status::Good,
     ),
     // a parameter tells this command from others that are read: it is no part of the name
@@ -33,8 +33,8 @@ const LISTED: [Row; 7] = [
     ),
     // what the Reference hasn't, and what is read but for a parameter
     (
-        b"\x09\x1B\xFF",
-        b"0 passed HT\nfault 2 2 UnknownCommand\n",
+        b"\x0C\x1B\xFF",
+        b"0 passed FF\nfault 2 2 UnknownCommand\n",
         Status::Refused,
     ),
     (

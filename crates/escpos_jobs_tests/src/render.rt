@@ -54,7 +54,7 @@ fn rows_of_render(rt: HostRuntime) {
     assert!(&rt; performs_rows(rt.alloc(), render_task(), &RENDERED, &[1, 4096]));
 }
 
-const RENDERED_CONTENTS: [Row; 25] = [
+const RENDERED_CONTENTS: [Row; 28] = [
     // ean13
     (
         b"1D 6B 02 34 30 30 36 33 38 31 33 33 33 39 33 00",
@@ -166,10 +166,26 @@ const RENDERED_CONTENTS: [Row; 25] = [
         b"bars center upca 162 3 none A 036000291452\nbars center ean8 162 3 none A 55123457\n",
         Status::Good,
     ),
+    // those of UPC-E, which are of the UPC-A that is meant
+    (
+        b"1D6B0131323334353600",
+        b"bars left upce 162 3 none A 1234565\n",
+        Status::Good,
+    ),
+    (
+        b"1D6B4207303132333435361D6B420B3031323334353030303036",
+        b"bars left upce 162 3 none A 01234565\nbars left upce 162 3 none A 012345000065\n",
+        Status::Good,
+    ),
     // the other symbologies have none
     (
         b"1D6B0441203124001D6B066131323A44001D6B49077B42005B5C5D7F",
         b"bars left code39 162 3 none A A 1$\nbars left codabar 162 3 none A a12:D\nbars left code128 162 3 none A {B\\00\\5b\\5c]\\7f\n",
+        Status::Good,
+    ),
+    (
+        b"1D6B480361007F1D6B4A052830312931",
+        b"bars left code93 162 3 none A a\\00\\7f\nbars left gs1_128 162 3 none A (01)1\n",
         Status::Good,
     ),
     // the other scales
@@ -373,6 +389,158 @@ fn styles_in_render(rt: HostRuntime) {
 }
 
 // A raster of 128 bytes a row through `render`, with 524,160 bytes of dots.
+// Where cells stand: tab stops, positions, margins and the width of the printing area.
+const RENDERED_POSITIONS: [Row; 27] = [
+    // the stops at power-on are at each eighth character; a cell that follows the one before it has no place
+    (
+        b"41 09 42 43 0A",
+        b"row left A@96BC\nfeed 1\n",
+        Status::Good,
+    ),
+    // the first stop at the right of the place, which the next character needn't follow
+    (
+        b"1B 24 60 00 09 41 0A",
+        b"row left @192A\nfeed 1\n",
+        Status::Good,
+    ),
+    // stops of ESC D in columns of the style then; after the last of them HT does nothing
+    (
+        b"1D 21 10 1B 44 02 00 1D 21 00 41 09 42 09 43 0A",
+        b"row left A@48BC\nfeed 1\n",
+        Status::Good,
+    ),
+    (
+        b"1B 44 00 41 09 42 0A",
+        b"row left AB\nfeed 1\n",
+        Status::Good,
+    ),
+    // ESC @ sets those of power-on
+    (
+        b"1B 44 02 00 1B 40 09 42 0A",
+        b"row left @96B\nfeed 1\n",
+        Status::Good,
+    ),
+    // to a dot, and by some dots to the right and to the left; to where it stands anyway
+    (
+        b"1B 24 64 00 41 0A",
+        b"row left @100A\nfeed 1\n",
+        Status::Good,
+    ),
+    (
+        b"41 1B 5C 0A 00 42 0A",
+        b"row left A@22B\nfeed 1\n",
+        Status::Good,
+    ),
+    (
+        b"41 1B 5C F4 FF 2F 0A",
+        b"row left A@0/\nfeed 1\n",
+        Status::Good,
+    ),
+    (
+        b"41 1B 24 0C 00 42 0A",
+        b"row left AB\nfeed 1\n",
+        Status::Good,
+    ),
+    // what would leave the printing area moves nothing
+    (
+        b"41 1B 24 01 02 42 1B 5C E7 FF 43 0A",
+        b"row left ABC\nfeed 1\n",
+        Status::Good,
+    ),
+    // a character that doesn't fit at its place stands at the beginning of the next line, or of this one if that is empty
+    (
+        b"41 1B 24 FF 01 42 0A",
+        b"row left A\nfeed 1\nrow left B\nfeed 1\n",
+        Status::Good,
+    ),
+    (b"1B 24 FF 01 42 0A", b"row left B\nfeed 1\n", Status::Good),
+    (
+        b"1B 24 F4 01 42 0A",
+        b"row left @500B\nfeed 1\n",
+        Status::Good,
+    ),
+    // to the end of the printing area, where no character fits; the stop at its end, too
+    (
+        b"41 1B 24 00 02 42 0A",
+        b"row left A\nfeed 1\nrow left B\nfeed 1\n",
+        Status::Good,
+    ),
+    (
+        b"1D 57 60 00 41 09 42 0A",
+        b"row left A\nfeed 1\nrow left B\nfeed 1\n",
+        Status::Good,
+    ),
+    (
+        b"1D 57 5F 00 41 09 42 0A",
+        b"row left AB\nfeed 1\n",
+        Status::Good,
+    ),
+    (
+        b"41 1B 5C F4 01 42 1B 5C 01 00 43 0A",
+        b"row left A\nfeed 1\nrow left B@13C\nfeed 1\n",
+        Status::Good,
+    ),
+    // a row at the left that is upside down has its margin
+    (
+        b"1D 4C 18 00 1B 7B 01 41 0A",
+        b"row left margin 24 upside @24A\nfeed 1\n",
+        Status::Good,
+    ),
+    // a move alone is no row
+    (b"09 0A", b"feed 1\n", Status::Good),
+    // a margin, and a place within it
+    (
+        b"1D 4C 18 00 41 1B 24 30 00 42 0A",
+        b"row left @24A@72B\nfeed 1\n",
+        Status::Good,
+    ),
+    // within a line GS L and GS W do nothing
+    (
+        b"41 1D 4C 18 00 1D 57 18 00 42 43 0A 44 0A",
+        b"row left ABC\nfeed 1\nrow left D\nfeed 1\n",
+        Status::Good,
+    ),
+    // a printing area of two characters, and one that isn't as wide as one
+    (
+        b"1D 57 18 00 41 42 43 0A",
+        b"row left AB\nfeed 1\nrow left C\nfeed 1\n",
+        Status::Good,
+    ),
+    (
+        b"1D 57 01 00 41 42 0A",
+        b"row left A\nfeed 1\nrow left B\nfeed 1\n",
+        Status::Good,
+    ),
+    // a margin at the line's end leaves no dot
+    (
+        b"1D 4C FF FF 41 42 0A",
+        b"row left @65535A\nfeed 1\nrow left @65535B\nfeed 1\n",
+        Status::Good,
+    ),
+    // centred in the printing area; a barcode has it, too
+    (
+        b"1B 61 01 1D 4C 18 00 1D 57 64 00 41 0A",
+        b"row center margin 24 width 100 @24A\nfeed 1\n",
+        Status::Good,
+    ),
+    (
+        b"1D 4C 18 00 1D 57 FF FF 1D 6B 44 07 35 35 31 32 33 34 35",
+        b"bars left margin 24 width 65535 ean8 162 3 none A 55123457\n",
+        Status::Good,
+    ),
+    // turned characters, each as wide as it is high otherwise
+    (
+        b"1B 56 01 41 1B 56 00 42 0A",
+        b"row left [A,1,1,0,0,0,0,0,0,0,0,1]A[A,1,1,0,0,0]B\nfeed 1\n",
+        Status::Good,
+    ),
+];
+
+#[test]
+fn positions_in_render(rt: HostRuntime) {
+    assert!(&rt; performs_rows(rt.alloc(), render_task(), &RENDERED_POSITIONS, &[1, 4096]));
+}
+
 const LARGEST: [Long; 1] = [(
     Text::Filled(b"1D7630008000FF0F", b'a', 1_048_336),
     Text::FilledAnd(b"raster left normal 128 4095 ", b'a', 1_048_348, b"\n"),

@@ -29,6 +29,20 @@ const USUAL: [Row; 1] = [(
     Status::Good,
 )];
 
+// All tab stops at power-on, in the widest line. After the last one HT does nothing.
+const WIDEST: [Row; 1] = [(
+    b"A\tB\tC\tD\tE\tF\tG\tH\tI\tJ\tK\tL\n",
+    b"row left A@96B@192C@288D@384E@480F@576G@672H@768I@864J@960KL\nfeed 1\n",
+    Status::Good,
+)];
+
+// Characters of 96 dots, one over another: ten take 960 dots, and with one more it would be over 1,024.
+const OVER: [Row; 1] = [(
+    b"\x1D!\x70A\x1B$\x00\x00A\x1B$\x00\x00A\x1B$\x00\x00A\x1B$\x00\x00A\x1B$\x00\x00A\x1B$\x00\x00A\x1B$\x00\x00A\x1B$\x00\x00A\x1B$\x00\x00A\x1B$\x00\x00B\n",
+    b"row left [A,8,1,0,0,0]A@0A@0A@0A@0A@0A@0A@0A@0A@0A\nfeed 1\nrow left [A,8,1,0,0,0]B\nfeed 1\n",
+    Status::Good,
+)];
+
 // Each row is printed in lines of so many dots.
 fn prints_wide(rt: &impl Abort, alloc: Global, dots: u16, rows: &[Row]) {
     let width = LineWidth::new(dots).expect(rt, "a width");
@@ -44,5 +58,7 @@ fn prints_wide(rt: &impl Abort, alloc: Global, dots: u16, rows: &[Row]) {
 fn papers_of_widths(rt: HostRuntime) {
     prints_wide(&rt, rt.alloc(), 384, &NARROW);
     prints_wide(&rt, rt.alloc(), 576, &WIDE);
+    prints_wide(&rt, rt.alloc(), 1024, &WIDEST);
+    prints_wide(&rt, rt.alloc(), 512, &OVER);
     assert!(&rt; performs_rows(rt.alloc(), raw_render_task(), &USUAL, &[4096]));
 }

@@ -1,10 +1,9 @@
 -- The cells of a line's text.
 use Rattle.std.proofs.Common.{◌≡◌, ℕ, ◌+◌, ◌*◌, ◌/◌, ◌≤◌, ◌<◌, ◌⊎◌, inl, inr, zero, suc, List, [], ◌∷◌, ◌++◌, length, map, refl, sym, ap, ◌∙◌, arith, append-nil, Bool, true, false, Some}
-use Rattle.std.specs.Prelude.{◌||◌, nat_le}
+use Rattle.std.specs.Prelude.{if◌then◌else◌}
 use Rattle.std.specs.List.{AllByRecursion}
 use Rattle.std.proofs.Math.Nat.{le-div_iff_mul-le, lt-div-mul-add, mul-le-mul}
 use Rattle.std.proofs.Math.Seq.{append_snoc}
-use Rattle.std.proofs.lemmas.Bool.{le-leb}
 use Rattle.std.proofs.lemmas.List.Sums.{sum_by-cons}
 use Rattle.escpos_command.specs.declared.command.Command.{Command}
 use Rattle.escpos_command.specs.declared.command.Command.TheVariants.{Char, Set}
@@ -14,8 +13,10 @@ use Rattle.escpos_command.specs.declared.parameter.choices.FontFace.{FontFace}
 use Rattle.escpos_command.specs.declared.parameter.choices.FontFace.TheVariants.{A, B}
 use Rattle.escpos_paper.specs.declared.cell.Cell.{Cell}
 use Rattle.escpos_paper.specs.declared.style.Style.{Style}
-use Rattle.escpos_paper.specs.Cells.{cell_dots, dots, face_dots, style_dots, narrow_dots}
+use Rattle.escpos_paper.specs.Cells.{cell_dots, dots}
+use Rattle.escpos_paper.specs.Dots.{face_dots, face_rows, style_dots, narrow_dots}
 use Rattle.escpos_paper.specs.Rows.{fits}
+use Rattle.escpos_paper.proofs.Fits.{Follows, narrow_fits, one_fits}
 use Rattle.escpos_paper.specs.Styles.{style, style_after}
 use Rattle.escpos_paper.specs.Typed.{IsTyping, typed}
 use Rattle.escpos_text.specs.Laws.{read_back}
@@ -88,30 +89,31 @@ at_least : (n m : ℕ) → n ≤ at_least_one m → (n ≤ 1) ⊎ (n ≤ m)
 at_least n zero h = inl h
 at_least n (suc m) h = inr h
 
-either : (a b : Bool) → (a ≡ true) ⊎ (b ≡ true) → (a || b) ≡ true
-either true b h = refl
-either false b (inl h) = absurd cc
-either false b (inr h) = h
-
 inside : (width n d : ℕ) → n ≤ width / d → n * d ≤ width
 inside width n zero h = omega arith
 inside width n (suc d) h = (le-div_iff_mul-le (omega arith)).0 h
 
 -- A line's characters fit on a row.
-pub row_fits : (width : ℕ) (s : Style) (row : List Cell) → AllByRecursion (HasStyle s) row → length row ≤ columns_of width s → fits width row ≡ true
-row_fits width s row h few = either (nat_le (length row) 1) (nat_le (dots row) width) (go (at_least (length row) (width / style_dots s) few)) where
-  go : (length row ≤ 1) ⊎ (length row ≤ width / style_dots s) → (nat_le (length row) 1 ≡ true) ⊎ (nat_le (dots row) width ≡ true)
-  go (inl one) = inl (le-leb _ _ one)
-  go (inr some) = inr (le-leb _ _ (omega (arith, inside width (length row) (style_dots s) some, dots_in_style s row h)))
+pub row_fits : (width : ℕ) (s : Style) (row : List Cell) → AllByRecursion (HasStyle s) row → AllByRecursion Follows row → length row ≤ columns_of width s → fits width row ≡ true
+row_fits width s row h follows few = elim (at_least (length row) (width / style_dots s) few) [
+  | inl one ↦ one_fits width row follows one
+  | inr some ↦ narrow_fits width row follows (omega (arith, inside width (length row) (style_dots s) some, dots_in_style s row h))
+]
 
 -- ## The end of a line
 
-face_some : (face : FontFace) → 1 ≤ face_dots face
-face_some A = omega arith
-face_some B = omega arith
+face_some : (face : FontFace) (turned : Bool) → 1 ≤ (if turned then face_rows face else face_dots face)
+face_some A true = omega arith
+face_some A false = omega arith
+face_some B true = omega arith
+face_some B false = omega arith
 
 style_some : (s : Style) → 1 ≤ narrow_dots s
-style_some s = let face = face_some s.font in omega (arith, face)
+style_some s = let face = face_some s.font s.turned in omega (arith, face)
+
+factor_some : (turned : Bool) (width height : ℕ) → 1 ≤ width → 1 ≤ height → 1 ≤ (if turned then height else width)
+factor_some true width height h k = k
+factor_some false width height h k = h
 
 -- One character more isn't on the line.
 one_over : (width d : ℕ) → 1 ≤ d → width < at_least_one (width / d) * d + d
@@ -120,11 +122,11 @@ one_over width d some = go (width / d) (lt-div-mul-add some) where
   go zero h = omega (arith, h)
   go (suc m) h = h
 
-pub ends_at_line_end : (width : ℕ) (s : Style) (row : List Cell) → 1 ≤ s.width → AllByRecursion (HasStyle s) row → length row ≡ columns_of width s
+pub ends_at_line_end : (width : ℕ) (s : Style) (row : List Cell) → (1 ≤ s.width) × (1 ≤ s.height) → AllByRecursion (HasStyle s) row → length row ≡ columns_of width s
     → EndsAtLineEnd width s row
 ends_at_line_end width s row some h full =
     let d = style_dots s in
-    let wide : 1 ≤ d = mul-le-mul (style_some s) some in
+    let wide : 1 ≤ d = mul-le-mul (style_some s) (factor_some s.turned s.width s.height some.0 some.1) in
     let dots_are = dots_in_style s row h in
     let same : length row * d ≡ at_least_one (width / d) * d = ap (λ n. n * d) full in
     omega (arith, dots_are, same, one_over width d wide)

@@ -1,6 +1,6 @@
 -- How many characters a line has.
 use Rattle.std.specs.Prelude.{ℕ, ◌/◌, zero, suc}
-use Rattle.escpos_paper.specs.Cells.{style_dots}
+use Rattle.escpos_paper.specs.Dots.{style_dots}
 use Rattle.escpos_paper.specs.declared.style.Style.{Style}
 
 abbrev pub at_least_one : ℕ → ℕ

@@ -7,9 +7,10 @@ use Rattle.escpos_paper.specs.declared.item.Item.{Item}
 use Rattle.escpos_paper.specs.declared.item.Item.TheVariants.{Feed}
 use Rattle.escpos_paper.specs.declared.style.LineStyle.{LineStyle}
 use Rattle.escpos_paper.specs.declared.style.Style.{Style}
-use Rattle.escpos_paper.specs.Cells.{dots, style_dots}
+use Rattle.escpos_paper.specs.Cells.{dots}
+use Rattle.escpos_paper.specs.Dots.{style_dots}
 use Rattle.escpos_paper.specs.Printed.{printed, row_of}
-use Rattle.escpos_paper.specs.Rows.{line}
+use Rattle.escpos_paper.specs.Rows.{line, moved}
 use Rattle.escpos_paper.specs.Styles.{style, line_style}
 use Rattle.escpos_text.specs.declared.encoding.Encoding.{Encoding}
 use Rattle.escpos_text.specs.Laws.{IsReadBack, read_back}
@@ -47,13 +48,14 @@ ShowLines e s (text ∷ lines) (row ∷ rows) =
 abbrev pub line_items : LineStyle → List Cell → List Item
 line_items lines row = row_of lines row ++ Feed 1 lines.spacing ∷ []
 
--- What commands that come after others print: each line as one row and its feed. Then the line is empty, and what was set is as it
+-- What commands that come after others print: each line as one row and its feed. Then the line is empty, its next cell stands at its beginning, and what was set is as it
 -- was, but for the code table.
 pub record PrintsLines (width : ℕ) (before commands : List Command) (e : Encoding) (lines : List (List ℕ)) : Type 0 where
   pub rows : List (List Cell)
   pub prints : printed width (before ++ commands) ≡ printed width before ++ flat_map (line_items (line_style before)) rows
   pub show : ShowLines e (style before) lines rows
   pub empties : line width (before ++ commands) ≡ []
+  pub follows : moved width (before ++ commands) ≡ None
   pub same_lines : line_style (before ++ commands) ≡ line_style before
   pub same_style : style (before ++ commands) ≡ record (style before) { table = table_after e.table commands }
 

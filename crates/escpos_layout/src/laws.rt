@@ -1,11 +1,11 @@
 //! Proof only: what lines are on paper, and what the definitions of the layouts say. The contract of each function is the law; when
 //! run, it does nothing. A law is proved with this crate, and another crate cites it by calling the function.
 
-ghost use Rattle.std.specs.Prelude.{◌≡◌, ◌≤◌, ℕ, List, [], ◌∷◌, ◌++◌, Ok, length};
+ghost use Rattle.std.specs.Prelude.{◌≡◌, ◌≤◌, ℕ, List, [], ◌∷◌, ◌++◌, None, Ok, length};
 ghost use Rattle.std.specs.List.{AllByRecursion};
 ghost use Rattle.escpos_command.specs.declared.command.Command.{Command};
 ghost use Rattle.escpos_paper.specs.declared.cell.Cell.{Cell};
-ghost use Rattle.escpos_paper.specs.Rows.{line};
+ghost use Rattle.escpos_paper.specs.Rows.{area, line, moved};
 ghost use Rattle.escpos_paper.specs.Styles.{style};
 ghost use Rattle.escpos_text.specs.declared.encoding.Encoding.{Encoding};
 ghost use Rattle.escpos_layout.specs.Columns.{columns_of};
@@ -17,13 +17,13 @@ ghost use Rattle.escpos_layout.specs.Wrapping.{wrap};
 ghost use Rattle.escpos_layout.specs.Writing.{lines_written};
 ghost use Rattle.escpos_layout.specs.declared.row.Field.{Field as TheField};
 
-/// No line is broken by the page: where the line is empty and the encoding is what the commands before have set, lines that have no
-/// more characters than fit on a line in the font and size in force are each printed as one row, whose cells read back as the line, and
-/// fed. Then the line is empty, and what was set is as it was, but for the code table.
+/// No line is broken by the page: where the line is empty, its next character stands at its beginning and the encoding is what the commands
+/// before have set, lines that have no more characters than fit into the printing area in the font and size in force are each printed as one
+/// row, whose cells read back as the line, and fed. Then the line is empty, and what was set is as it was, but for the code table.
 pub fn printed_lines()
     ensures { (width : ℕ) (before : List Command) (encoding : Encoding) (lines : List (List ℕ)) (commands : List Command)
-        → line width before ≡ [] → IsInForce before encoding
-        → AllByRecursion (λ text. length text ≤ columns_of width (style before)) lines
+        → line width before ≡ [] → moved width before ≡ None → IsInForce before encoding
+        → AllByRecursion (λ text. length text ≤ columns_of (area width before) (style before)) lines
         → lines_written encoding lines ≡ Ok commands → PrintsLines width before commands encoding lines }
 {
     escpos_text::laws::read_back();

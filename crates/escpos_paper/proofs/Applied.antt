@@ -1,7 +1,7 @@
 -- What carrying out a command leaves, in the pieces that a page has it in.
 use Rattle.std.proofs.Common.{◌≡◌, List, [], ◌∷◌, ◌++◌, refl, ap, sym, ◌∙◌, subst, append_assoc, append-nil}
 use Rattle.escpos_paper.specs.declared.item.Item.{Item}
-use Rattle.escpos_paper.specs.declared.cell.Cell.{Cell}
+use Rattle.escpos_paper.specs.Cells.{Placed}
 use Rattle.escpos_paper.specs.declared.paper.Paper.{Paper}
 use Rattle.escpos_paper.specs.declared.style.Settings.{Settings}
 use Rattle.std.specs.Prelude.{ℕ, Option}
@@ -11,11 +11,14 @@ use Rattle.escpos_paper.specs.Page.{Sheet}
 use Rattle.escpos_paper.specs.Torn.{below}
 use Rattle.escpos_paper.specs.Steps.{step_prints, sheet_after, sheet_after_all, sheet_on}
 use Rattle.escpos_paper.proofs.Sheets.{sheet_of, sheet_step}
-use Rattle.escpos_paper.proofs.Widths.{IsWidth, width_in_range}
+use Rattle.escpos_paper.proofs.Widths.{IsWidth, height_in_range, width_in_range}
 
--- The style of any sheet that commands leave has a width that can be printed.
+-- The style of any sheet that commands leave has a width and a height that can be printed.
 pub width_of : (w : ℕ) (sheet : Sheet) (kept : List Item) (cs : List Command) → sheet ≡ sheet_of w kept cs → IsWidth sheet.settings.text.width
 width_of w sheet kept cs is = subst (λ (t : Sheet). IsWidth t.settings.text.width) (sym is) (width_in_range cs)
+
+pub height_of : (w : ℕ) (sheet : Sheet) (kept : List Item) (cs : List Command) → sheet ≡ sheet_of w kept cs → IsWidth sheet.settings.text.height
+height_of w sheet kept cs is = subst (λ (t : Sheet). IsWidth t.settings.text.height) (sym is) (height_in_range cs)
 
 -- Commands in range, and one more.
 pub one_more : (cs : List Command) (c : Command) → AreCommands cs → IsCommand c → AreCommands (cs ++ c ∷ [])
@@ -23,10 +26,10 @@ one_more [] c h k = (k, tt)
 one_more (d ∷ cs) c h k = (h.0, one_more cs c h.1 k)
 
 -- The sheet of a paper that has these parts.
-pub sheet_made : (paper : Paper) (width : ℕ) (items : List Item) (settings : Settings) (kept_data : Option (List ℕ)) (row : List Cell)
-    → paper.line_width ≡ width → paper.items.items ≡ items → paper.settings ≡ settings → paper.store.stored ≡ kept_data → paper.line ≡ row
-    → sheet_on paper ≡ record { line_dots = width; items = items; settings = settings; stored = kept_data; line = row }
-sheet_made paper width items settings kept_data row e p q r v = cc
+pub sheet_made : (paper : Paper) (width : ℕ) (items : List Item) (settings : Settings) (kept_data : Option (List ℕ)) (stops : List ℕ) (line : Placed)
+    → paper.line_width ≡ width → paper.items.items ≡ items → paper.settings ≡ settings → paper.store.stored ≡ kept_data → paper.stops ≡ stops → paper.line ≡ line
+    → sheet_on paper ≡ record { line_dots = width; items = items; settings = settings; stored = kept_data; stops = stops; line = line }
+sheet_made paper width items settings kept_data stops line e p q r s v = cc
 
 -- A step is the same below any items.
 pub step_below : (gone : List Item) (sheet : Sheet) (c : Command) → below gone (sheet_after sheet c) ≡ sheet_after (below gone sheet) c

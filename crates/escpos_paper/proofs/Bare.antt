@@ -6,7 +6,7 @@
 use Rattle.std.proofs.Common.{◌≡◌, ℕ, List, [], ◌∷◌, ◌++◌, refl, sym, ◌∙◌, ap, subst, append-nil, Bool, true, false, cond}
 use Rattle.std.proofs.Math.Seq.{append_snoc}
 use Rattle.escpos_command.specs.declared.command.Command.{Command}
-use Rattle.escpos_command.specs.declared.command.Command.TheVariants.{Char, LineFeed, Init, FeedLines, FeedUnits, Bars, Raster, Cut, OldCut, Set, QrPrint}
+use Rattle.escpos_command.specs.declared.command.Command.TheVariants.{Char, Tab, Position, LineFeed, Init, FeedLines, FeedUnits, Bars, Raster, Cut, OldCut, Set, QrPrint}
 use Rattle.escpos_command.specs.declared.setting.SettingKind.TheVariants as sets
 use Rattle.escpos_command.specs.CommandTable.{IsCommand, AreCommands}
 use Rattle.escpos_command.specs.Text.{is_some}
@@ -14,12 +14,13 @@ use Rattle.std.specs.Prelude.{Option, Some, None}
 use Rattle.escpos_paper.specs.declared.item.Item.{Item}
 use Rattle.escpos_paper.specs.declared.style.Settings.{Settings}
 use Rattle.escpos_paper.specs.Styles.{is_empty}
-use Rattle.escpos_paper.specs.Cells.{cell}
-use Rattle.escpos_paper.specs.Rows.{fits}
+use Rattle.escpos_paper.specs.Cells.{cell, nothing_placed}
+use Rattle.escpos_command.specs.declared.parameter.position.PositionKind.TheVariants as position
 use Rattle.escpos_paper.specs.Page.{Sheet}
 use Rattle.escpos_paper.specs.Torn.{bare}
-use Rattle.escpos_paper.specs.Steps.{settings_after, sheet_after}
-use Rattle.escpos_paper.proofs.Sheets.{sheet_of, sheet-snoc, sheet_step}
+use Rattle.escpos_paper.specs.Steps.{area_of, has_room, settings_after, sheet_after}
+use Rattle.escpos_paper.proofs.Sheets.{sheet_of, sheet-snoc, sheet_step, with_character}
+use Rattle.escpos_paper.specs.Printed.{row_and_feed}
 use Rattle.escpos_paper.proofs.Applied.{one_more}
 
 -- Some commands leave just this, on paper that held nothing.
@@ -36,7 +37,7 @@ one_step w s t c e k h = record { commands = h.commands ++ c ∷ []; in_range = 
 
 -- The sheet without its items and without its line.
 abbrev blank : Sheet → Sheet
-blank s = record s { items = []; line = [] }
+blank s = record s { items = []; line = nothing_placed }
 
 abbrev IsQuiet : ℕ → Sheet → Type 0
 IsQuiet w s = IsLeft w (bare s) × IsLeft w (blank s)
@@ -46,23 +47,25 @@ ends : (w : ℕ) (s : Sheet) (c : Command) → bare (sheet_after s c) ≡ blank 
 ends w s c e q = (same_sheet w (blank s) (bare (sheet_after s c)) e q.1, same_sheet w (blank s) (blank (sheet_after s c)) (ap blank e) q.1)
 
 -- A character that fits goes on with the line, and one that doesn't begins a new one.
-puts : (w : ℕ) (s : Sheet) (b : ℕ) (fit : Bool) → fits s.line_dots (s.line ++ cell s.settings.text b ∷ []) ≡ fit → IsQuiet w s → IsCommand (Char b) → IsQuiet w (sheet_after s (Char b))
+puts : (w : ℕ) (s : Sheet) (b : ℕ) (fit : Bool) → has_room (area_of s.line_dots s.settings) s.line (cell s.settings.text b) ≡ fit → IsQuiet w s → IsCommand (Char b) → IsQuiet w (sheet_after s (Char b))
 puts w s b true h q k = (
-  one_step w (bare s) (bare (sheet_after s (Char b))) (Char b) (cc h) k q.0,
+  one_step w (bare s) (bare (sheet_after s (Char b))) (Char b)
+      (sym (ap (λ v. record (sheet_after (bare s) (Char b)) { items = cond v [] (row_and_feed s.settings.lines s.line.cells) }) h)) k q.0,
   same_sheet w (blank s) (blank (sheet_after s (Char b))) refl q.1,
 )
 puts w s b false h q k = (
-  one_step w (blank s) (bare (sheet_after s (Char b))) (Char b) (cc h) k q.1,
+  one_step w (blank s) (bare (sheet_after s (Char b))) (Char b)
+      (ap (λ v. record (bare (sheet_after s (Char b))) { line = with_character v s.line (cell s.settings.text b) }) h) k q.1,
   same_sheet w (blank s) (blank (sheet_after s (Char b))) refl q.1,
 )
 
 -- The sheet with other settings, without its items and without its line.
 abbrev with : Sheet → Settings → Sheet
-with s settings = record s { items = []; settings = settings; line = [] }
+with s settings = record s { items = []; settings = settings; line = nothing_placed }
 
 -- What is set only at the beginning of a line counts where the line is empty.
-acts : (w : ℕ) (s : Sheet) (c : Command) (empty : Bool) → is_empty s.line ≡ empty
-    → blank (sheet_after s c) ≡ with s (settings_after (is_empty s.line) s.settings c)
+acts : (w : ℕ) (s : Sheet) (c : Command) (empty : Bool) → is_empty s.line.cells ≡ empty
+    → blank (sheet_after s c) ≡ with s (settings_after (is_empty s.line.cells) s.settings c)
     → sheet_after (blank s) c ≡ with s (settings_after true s.settings c) → settings_after false s.settings c ≡ s.settings
     → IsQuiet w s → IsCommand c → IsLeft w (blank (sheet_after s c))
 acts w s c true h now there kept q k =
@@ -72,14 +75,14 @@ acts w s c false h now there kept q k =
 
 -- A QR code ends the line if data is stored; otherwise nothing happens.
 prints_or_not : (w : ℕ) (s : Sheet) (data_then : Option (List ℕ)) → s.stored ≡ data_then → IsQuiet w s → IsCommand QrPrint → IsQuiet w (sheet_after s QrPrint)
-prints_or_not w s (Some bytes) h q k = ends w s QrPrint (ap (λ v. record s { items = []; line = cond (is_some v) [] s.line }) h) q
+prints_or_not w s (Some bytes) h q k = ends w s QrPrint (ap (λ v. record s { items = []; line = cond (is_some v) nothing_placed s.line }) h) q
 prints_or_not w s None h q k = (
-  same_sheet w (bare s) (bare (sheet_after s QrPrint)) (ap (λ v. record s { items = []; line = cond (is_some v) [] s.line }) h) q.0,
+  same_sheet w (bare s) (bare (sheet_after s QrPrint)) (ap (λ v. record s { items = []; line = cond (is_some v) nothing_placed s.line }) h) q.0,
   same_sheet w (blank s) (blank (sheet_after s QrPrint)) refl q.1,
 )
 
 quiet_step : (w : ℕ) (s : Sheet) (c : Command) → IsQuiet w s → IsCommand c → IsQuiet w (sheet_after s c)
-quiet_step w s (Char b) q k = puts w s b (fits s.line_dots (s.line ++ cell s.settings.text b ∷ [])) refl q k
+quiet_step w s (Char b) q k = puts w s b (has_room (area_of s.line_dots s.settings) s.line (cell s.settings.text b)) refl q k
 quiet_step w s LineFeed q k = ends w s LineFeed refl q
 quiet_step w s (FeedLines n) q k = ends w s (FeedLines n) refl q
 quiet_step w s (FeedUnits n) q k = ends w s (FeedUnits n) refl q
@@ -90,9 +93,23 @@ quiet_step w s (OldCut b) q k = ends w s (OldCut b) refl q
 quiet_step w s QrPrint q k = prints_or_not w s s.stored refl q k
 quiet_step w s Init q k = (one_step w (blank s) (bare (sheet_after s Init)) Init refl k q.1, one_step w (blank s) (blank (sheet_after s Init)) Init refl k q.1)
 quiet_step w s (Set (sets.Align, p)) q k =
-    (one_step w (bare s) (bare (sheet_after s (Set (sets.Align, p)))) (Set (sets.Align, p)) refl k q.0, acts w s (Set (sets.Align, p)) (is_empty s.line) refl refl refl refl q k)
+    (one_step w (bare s) (bare (sheet_after s (Set (sets.Align, p)))) (Set (sets.Align, p)) refl k q.0, acts w s (Set (sets.Align, p)) (is_empty s.line.cells) refl refl refl refl q k)
 quiet_step w s (Set (sets.UpsideDown, p)) q k =
-    (one_step w (bare s) (bare (sheet_after s (Set (sets.UpsideDown, p)))) (Set (sets.UpsideDown, p)) refl k q.0, acts w s (Set (sets.UpsideDown, p)) (is_empty s.line) refl refl refl refl q k)
+    (one_step w (bare s) (bare (sheet_after s (Set (sets.UpsideDown, p)))) (Set (sets.UpsideDown, p)) refl k q.0, acts w s (Set (sets.UpsideDown, p)) (is_empty s.line.cells) refl refl refl refl q k)
+quiet_step w s Tab q k =
+    (one_step w (bare s) (bare (sheet_after s Tab)) Tab refl k q.0, same_sheet w (blank s) (blank (sheet_after s Tab)) refl q.1)
+quiet_step w s (Position (position.Absolute, n)) q k =
+    let c = Position (position.Absolute, n) in
+    (one_step w (bare s) (bare (sheet_after s c)) c refl k q.0, same_sheet w (blank s) (blank (sheet_after s c)) refl q.1)
+quiet_step w s (Position (position.Relative, n)) q k =
+    let c = Position (position.Relative, n) in
+    (one_step w (bare s) (bare (sheet_after s c)) c refl k q.0, same_sheet w (blank s) (blank (sheet_after s c)) refl q.1)
+quiet_step w s (Position (position.LeftMargin, n)) q k =
+    let c = Position (position.LeftMargin, n) in
+    (one_step w (bare s) (bare (sheet_after s c)) c refl k q.0, acts w s c (is_empty s.line.cells) refl refl refl refl q k)
+quiet_step w s (Position (position.AreaWidth, n)) q k =
+    let c = Position (position.AreaWidth, n) in
+    (one_step w (bare s) (bare (sheet_after s c)) c refl k q.0, acts w s c (is_empty s.line.cells) refl refl refl refl q k)
 quiet_step w s c q k =
     (one_step w (bare s) (bare (sheet_after s c)) c refl k q.0, one_step w (blank s) (blank (sheet_after s c)) c refl k q.1)
 

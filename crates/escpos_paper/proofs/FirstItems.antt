@@ -2,10 +2,11 @@
 use Rattle.std.proofs.Common.{◌≡◌, ◌≤◌, ℕ, List, [], ◌∷◌, ◌++◌, length, refl, Bool, true, false, cond, arith, IsTrue}
 use Rattle.std.specs.Prelude.{nat_le, nat_lt}
 use Rattle.std.specs.List.{AllByRecursion}
+use Rattle.std.proofs.lemmas.Bool.{leb-true}
 use Rattle.std.proofs.lemmas.Bool.Decides.{nat_tests}
 use Rattle.escpos_command.specs.declared.command.Command.{Command}
 use Rattle.escpos_command.specs.declared.command.Command.TheVariants as kind
-use Rattle.escpos_command.specs.EarlierProfiles.{in_profile}
+use Rattle.escpos_command.specs.EarlierProfiles.{in_profile, symbology_since}
 use Rattle.escpos_paper.specs.declared.cell.Cell.{Cell}
 use Rattle.escpos_paper.specs.declared.item.Item.{Item}
 use Rattle.escpos_paper.specs.declared.style.LineStyle.{LineStyle}
@@ -43,9 +44,12 @@ prints_first w before (kind.Char b) h = chosen (nat_lt (length (rows w before)) 
 prints_first w before kind.LineFeed h = both (row_of (line_style before) (line w before)) _ (row_is (line_style before) (line w before)) (tt, tt)
 prints_first w before (kind.FeedLines n) h = both (row_of (line_style before) (line w before)) _ (row_is (line_style before) (line w before)) (tt, tt)
 prints_first w before (kind.FeedUnits n) h = absurd cc
-prints_first w before (kind.Bars bars) h = both (row_and_feed (line_style before) (line w before)) _ (row_with_feed (line_style before) (line w before)) (tt, tt)
+prints_first w before (kind.Bars bars) h = both (row_and_feed (line_style before) (line w before)) _ (row_with_feed (line_style before) (line w before)) (leb-true (symbology_since bars.symbology) 1 h, tt)
 prints_first w before (kind.Raster raster) h = both (row_and_feed (line_style before) (line w before)) _ (row_with_feed (line_style before) (line w before)) (few_rows raster.height (nat_le raster.height 2047) refl h, tt)
 prints_first w before (kind.Cut cut) h = both (row_and_feed (line_style before) (line w before)) _ (row_with_feed (line_style before) (line w before)) (tt, tt)
+prints_first w before kind.Tab h = absurd cc
+prints_first w before (kind.Position p) h = absurd cc
+prints_first w before (kind.TabStops columns) h = absurd cc
 prints_first w before kind.Return h = tt
 prints_first w before kind.Init h = tt
 prints_first w before (kind.Set s) h = tt

@@ -1,10 +1,12 @@
 pub mod OneMore
 pub mod Fits
+pub mod Entries
 pub mod Filled
 pub mod Cuts
 pub mod Widths
 pub mod TextRuns
 pub mod TextSteps
+pub mod Rooms
 pub mod OneCut
 pub mod AllCuts
 pub mod Sheets
@@ -14,7 +16,10 @@ pub mod Bare
 pub mod Above
 pub mod Worked
 pub mod ItemParts
+pub mod Runs
 pub mod CharactersPut
+pub mod ExpandedDigits
 pub mod FirstItems
 pub mod SecondItems
 pub mod TypedLines
+pub mod AtRest

@@ -1,19 +1,21 @@
--- What one more command does to the settings and the cells of a list of commands.
+-- What one more command does to the settings and the entries of a list of commands.
 use Rattle.std.proofs.Common.{◌≡◌, ℕ, List, [], ◌∷◌, ◌++◌, refl, sym, ◌∙◌, ap, append_assoc, append-nil, Bool, true, false, cond, Option}
-use Rattle.std.specs.Prelude.{◌||◌, ◌&&◌, not, map}
-use Rattle.std.proofs.lemmas.List.{map-append}
+use Rattle.std.specs.Prelude.{◌||◌, ◌&&◌, not, map, None, Some, option_to_list}
+use Rattle.std.specs.Option.{option_map, unwrap_or}
+use Rattle.std.specs.List.{flat_map}
+use Rattle.std.proofs.lemmas.Grind.{flat_map-append}
 use Rattle.std.proofs.Math.Seq.{append_snoc}
 use Rattle.escpos_command.specs.declared.command.Command.{Command}
 use Rattle.escpos_command.specs.Text.{text, text_after, ends_line, ends_later, characters}
-use Rattle.escpos_paper.specs.declared.cell.Cell.{Cell}
 use Rattle.escpos_paper.specs.declared.style.Style.{Style}
 use Rattle.escpos_paper.specs.OverPlaces.{over_places}
-use Rattle.escpos_paper.specs.Styles.{acts_at_line_start, is_empty, power_on, power_on_settings, settings, style, sets_qr_model, sets_qr_size, sets_correction, if_it_counts, commands_that_count, sets_alignment, sets_upside_down, sets_spacing, sets_table, sets_font, sets_width, sets_height, sets_bold, sets_underline, sets_strike, sets_reverse, sets_character_set, sets_character_spacing, sets_color, sets_bar_height, sets_module_width, sets_hri_place, sets_hri_font, set_after, style_after}
-use Rattle.escpos_command.specs.Settings.{setting}
+use Rattle.escpos_paper.specs.Styles.{acts_at_line_start, is_empty, power_on, placing, power_on_settings, settings, stops, stops_at, style, sets_margin, sets_area, sets_stops, sets_turned, usual_stops, sets_qr_model, sets_qr_size, sets_correction, if_it_counts, commands_that_count, sets_alignment, sets_upside_down, sets_spacing, sets_table, sets_font, sets_width, sets_height, sets_bold, sets_underline, sets_strike, sets_reverse, sets_character_set, sets_character_spacing, sets_color, sets_bar_height, sets_module_width, sets_hri_place, sets_hri_font, set_after, style_after}
+use Rattle.escpos_command.specs.Settings.{last_or, setting}
 use Rattle.escpos_command.proofs.Lines.{ends_later-snoc}
 use Rattle.escpos_command.proofs.Settings.{or_false, or_true, setting-snoc}
-use Rattle.escpos_paper.specs.Cells.{cell, cell_at, cells}
-use Rattle.escpos_paper.specs.Steps.{set_at_start, settings_after}
+use Rattle.escpos_paper.specs.Cells.{Move, bytes_of_entry, entries, entries_of, entry_at, go, go_of, move_of, put, put_of}
+use Rattle.escpos_paper.specs.Dots.{area_dots}
+use Rattle.escpos_paper.specs.Steps.{placing_after, set_at_start, settings_after}
 
 -- ## Attributes
 
@@ -31,6 +33,7 @@ style-snoc cs c =
       setting-snoc sets_character_set power_on.character_set cs c,
       setting-snoc sets_character_spacing power_on.spacing cs c,
       setting-snoc sets_color power_on.color cs c,
+      setting-snoc sets_turned power_on.turned cs c,
     )
 
 -- ## Places
@@ -55,7 +58,7 @@ over-nothing : {X : Type 0} (before cs : List Command) → over_places {X = X} (
 over-nothing before [] = refl
 over-nothing before (c ∷ cs) = over-nothing (before ++ c ∷ []) cs
 
--- ## Cells
+-- ## Entries
 
 -- At a place of the list, what one more command after it does.
 at_place : (b : List Command) (d : Command) (following cs : List Command) (c : Command) (ends : Bool) → b ++ d ∷ following ≡ cs → ends_line cs c ≡ ends
@@ -64,44 +67,47 @@ at_place b d following cs c ends whole h =
     ends_later-snoc (b ++ d ∷ []) following c
     ∙ ap (λ v. ends_later (b ++ d ∷ []) following || v) (ap (λ bs. ends_line bs c) (append_snoc b d following ∙ whole) ∙ h)
 
-cells_by : (cs : List Command) (c : Command) (b : Bool) → ends_line cs c ≡ b
-    → cells (cs ++ c ∷ []) ≡ cond b [] (cells cs) ++ map (cell (style cs)) (characters c)
-cells_by cs c true h =
-    over-snoc-at cell_at (λ b d following. []) [] cs cs c refl
-    (λ b d following whole. ap (λ v. cond v [] (map (cell (style b)) (characters d))) (at_place b d following cs c true whole h ∙ or_true (ends_later (b ++ d ∷ []) following)))
-    ∙ ap (λ t. t ++ map (cell (style cs)) (characters c)) (over-nothing [] cs)
-cells_by cs c false h =
-    over-snoc-at cell_at cell_at [] cs cs c refl
-    (λ b d following whole. ap (λ v. cond v [] (map (cell (style b)) (characters d))) (at_place b d following cs c false whole h ∙ or_false (ends_later (b ++ d ∷ []) following)))
+entries_by : (w : ℕ) (cs : List Command) (c : Command) (b : Bool) → ends_line cs c ≡ b
+    → entries w (cs ++ c ∷ []) ≡ cond b [] (entries w cs) ++ entries_of w cs c
+entries_by w cs c true h =
+    over-snoc-at (entry_at w) (λ b d following. []) [] cs cs c refl
+    (λ b d following whole. ap (λ v. cond v [] (entries_of w b d)) (at_place b d following cs c true whole h ∙ or_true (ends_later (b ++ d ∷ []) following)))
+    ∙ ap (λ t. t ++ entries_of w cs c) (over-nothing [] cs)
+entries_by w cs c false h =
+    over-snoc-at (entry_at w) (entry_at w) [] cs cs c refl
+    (λ b d following whole. ap (λ v. cond v [] (entries_of w b d)) (at_place b d following cs c false whole h ∙ or_false (ends_later (b ++ d ∷ []) following)))
 
-pub cells-snoc : (cs : List Command) (c : Command) → cells (cs ++ c ∷ []) ≡ cond (ends_line cs c) [] (cells cs) ++ map (cell (style cs)) (characters c)
-cells-snoc cs c = cells_by cs c (ends_line cs c) refl
+pub entries-snoc : (w : ℕ) (cs : List Command) (c : Command) → entries w (cs ++ c ∷ []) ≡ cond (ends_line cs c) [] (entries w cs) ++ entries_of w cs c
+entries-snoc w cs c = entries_by w cs c (ends_line cs c) refl
 
--- The bytes of the cells are the text.
-bytes_in_style : (s : Style) (bs : List ℕ) → map (λ (x : Cell). x.byte) (map (cell s) bs) ≡ bs
+-- The characters of the entries are the text.
+bytes_in_style : (s : Style) (bs : List ℕ) → flat_map bytes_of_entry (map (put s) bs) ≡ bs
 bytes_in_style s [] = refl
 bytes_in_style s (b ∷ bs) = ap (λ t. b ∷ t) (bytes_in_style s bs)
 
-bytes_of_place : (s : Style) (bs : List ℕ) (b : Bool) → map (λ (x : Cell). x.byte) (cond b [] (map (cell s) bs)) ≡ cond b [] bs
-bytes_of_place s bs true = refl
-bytes_of_place s bs false = bytes_in_style s bs
+no_bytes : (area : ℕ) (m : Option Move) → flat_map bytes_of_entry (option_to_list (option_map (go area) m)) ≡ []
+no_bytes area None = refl
+no_bytes area (Some m) = refl
 
-bytes_from : (before cs : List Command) → map (λ (x : Cell). x.byte) (over_places cell_at before cs) ≡ text_after before cs
-bytes_from before [] = refl
-bytes_from before (c ∷ cs) =
-    map-append (λ (x : Cell). x.byte) (cell_at before c cs) (over_places cell_at (before ++ c ∷ []) cs)
-    ∙ ap (λ t. t ++ map (λ (x : Cell). x.byte) (over_places cell_at (before ++ c ∷ []) cs)) (bytes_of_place (style before) (characters c) (ends_later (before ++ c ∷ []) cs))
-    ∙ ap (λ t. cond (ends_later (before ++ c ∷ []) cs) [] (characters c) ++ t) (bytes_from (before ++ c ∷ []) cs)
+bytes_of_command : (w : ℕ) (before : List Command) (c : Command) → flat_map bytes_of_entry (entries_of w before c) ≡ characters c
+bytes_of_command w before c =
+    flat_map-append bytes_of_entry (put_of (style before) c) (go_of w before c)
+    ∙ ap (λ t. t ++ flat_map bytes_of_entry (go_of w before c)) (bytes_in_style (style before) (characters c))
+    ∙ ap (λ t. characters c ++ t) (no_bytes (area_dots w (placing before)) (move_of (stops before) c)) ∙ append-nil (characters c)
 
-pub bytes_of_cells : (cs : List Command) → map (λ (x : Cell). x.byte) (cells cs) ≡ text cs
-bytes_of_cells cs = bytes_from [] cs
+bytes_of_place : (w : ℕ) (before : List Command) (c : Command) (b : Bool) → flat_map bytes_of_entry (cond b [] (entries_of w before c)) ≡ cond b [] (characters c)
+bytes_of_place w before c true = refl
+bytes_of_place w before c false = bytes_of_command w before c
 
-empty_map : {X Y : Type 0} (f : X → Y) (xs : List X) → is_empty (map f xs) ≡ is_empty xs
-empty_map f [] = refl
-empty_map f (x ∷ xs) = refl
+bytes_from : (w : ℕ) (before cs : List Command) → flat_map bytes_of_entry (over_places (entry_at w) before cs) ≡ text_after before cs
+bytes_from w before [] = refl
+bytes_from w before (c ∷ cs) =
+    flat_map-append bytes_of_entry (entry_at w before c cs) (over_places (entry_at w) (before ++ c ∷ []) cs)
+    ∙ ap (λ t. t ++ flat_map bytes_of_entry (over_places (entry_at w) (before ++ c ∷ []) cs)) (bytes_of_place w before c (ends_later (before ++ c ∷ []) cs))
+    ∙ ap (λ t. cond (ends_later (before ++ c ∷ []) cs) [] (characters c) ++ t) (bytes_from w (before ++ c ∷ []) cs)
 
-pub empty_text : (cs : List Command) → is_empty (text cs) ≡ is_empty (cells cs)
-empty_text cs = ap is_empty (sym (bytes_of_cells cs)) ∙ empty_map (λ (x : Cell). x.byte) (cells cs)
+pub bytes_of_entries : (w : ℕ) (cs : List Command) → flat_map bytes_of_entry (entries w cs) ≡ text cs
+bytes_of_entries w cs = bytes_from w [] cs
 
 -- ## Settings of lines
 
@@ -118,6 +124,27 @@ at_start-snoc sets start cs c =
     ap (setting sets start) (over-snoc if_it_counts if_it_counts [] cs c (λ b d following. refl))
     ∙ at_start_by sets start cs c (acts_at_line_start c && not (is_empty (text cs)))
 
+-- Where a line stands.
+pub placing-snoc : (cs : List Command) (c : Command) → placing (cs ++ c ∷ []) ≡ placing_after (is_empty (text cs)) (placing cs) c
+placing-snoc cs c =
+    cc (
+      at_start-snoc sets_alignment power_on_settings.lines.alignment.side cs c,
+      at_start-snoc sets_margin power_on_settings.lines.alignment.margin cs c,
+      at_start-snoc sets_area power_on_settings.lines.alignment.width cs c,
+    )
+
+-- ## Tab stops
+
+last_with : {X : Type 0} (start : X) (xs : List X) (o : Option X) → last_or start (xs ++ option_to_list o) ≡ unwrap_or o (last_or start xs)
+last_with start [] None = refl
+last_with start [] (Some y) = refl
+last_with start (x ∷ xs) o = last_with x xs o
+
+pub stops-snoc : (cs : List Command) (c : Command) → stops (cs ++ c ∷ []) ≡ unwrap_or (sets_stops (style cs) c) (stops cs)
+stops-snoc cs c =
+    ap (last_or usual_stops) (over-snoc stops_at stops_at [] cs c (λ b d following. refl))
+    ∙ last_with usual_stops (over_places stops_at [] cs) (sets_stops (style cs) c)
+
 -- ## All settings
 
 pub settings-snoc : (cs : List Command) (c : Command) → settings (cs ++ c ∷ []) ≡ settings_after (is_empty (text cs)) (settings cs) c
@@ -128,7 +155,9 @@ settings-snoc cs c =
       setting-snoc sets_module_width power_on_settings.bars.module_width cs c,
       setting-snoc sets_hri_place power_on_settings.bars.place cs c,
       setting-snoc sets_hri_font power_on_settings.bars.hri_font cs c,
-      at_start-snoc sets_alignment power_on_settings.lines.alignment cs c,
+      at_start-snoc sets_alignment power_on_settings.lines.alignment.side cs c,
+      at_start-snoc sets_margin power_on_settings.lines.alignment.margin cs c,
+      at_start-snoc sets_area power_on_settings.lines.alignment.width cs c,
       at_start-snoc sets_upside_down power_on_settings.lines.upside_down cs c,
       setting-snoc sets_spacing power_on_settings.lines.spacing cs c,
       setting-snoc sets_qr_model power_on_settings.codes.model cs c,

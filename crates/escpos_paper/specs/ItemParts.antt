@@ -3,14 +3,14 @@
 use Rattle.std.specs.Prelude.{ℕ, List, [], ◌++◌, codes, decimal}
 use Rattle.escpos_paper.specs.declared.item.Item.{Item}
 use Rattle.escpos_paper.specs.declared.item.Item.TheVariants.{Raster, Qr}
-use Rattle.escpos_paper.specs.ItemsText.{align_name, correction_name, scale_name, words}
+use Rattle.escpos_paper.specs.ItemsText.{placing_text, correction_name, scale_name, words}
 
 -- All of the line that isn't dots or the content of a QR code.
 abbrev pub front : Item → List ℕ
 front (Raster align scale x y dots) =
-    codes "raster " ++ align_name align ++ codes " " ++ scale_name scale ++ codes " " ++ decimal x ++ codes " " ++ decimal y ++ codes " "
+    codes "raster " ++ placing_text align ++ codes " " ++ scale_name scale ++ codes " " ++ decimal x ++ codes " " ++ decimal y ++ codes " "
 front (Qr align model size level content) =
-    codes "qr " ++ align_name align ++ codes " " ++ decimal model ++ codes " " ++ decimal size ++ codes " " ++ correction_name level ++ codes " "
+    codes "qr " ++ placing_text align ++ codes " " ++ decimal model ++ codes " " ++ decimal size ++ codes " " ++ correction_name level ++ codes " "
 front item = words item
 
 -- The dots that follow, which only a raster has.

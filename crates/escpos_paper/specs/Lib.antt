@@ -1,4 +1,5 @@
 pub mod OverPlaces
+pub mod Dots
 pub mod Styles
 pub mod Cells
 pub mod CheckDigit

@@ -4,21 +4,22 @@ use Rattle.escpos_command.specs.declared.command.Command.{Command}
 use Rattle.escpos_command.specs.CommandTable.{AreCommands}
 use Rattle.escpos_command.specs.LineWidths.{is_line_width}
 use Rattle.escpos_command.specs.Settings.{stored}
-use Rattle.escpos_paper.specs.declared.cell.Cell.{Cell}
 use Rattle.escpos_paper.specs.declared.item.Item.{Item}
 use Rattle.escpos_paper.specs.declared.style.Settings.{Settings}
-use Rattle.escpos_paper.specs.Styles.{settings}
-use Rattle.escpos_paper.specs.Rows.{line}
+use Rattle.escpos_paper.specs.Styles.{settings, stops}
+use Rattle.escpos_paper.specs.Rows.{placed}
+use Rattle.escpos_paper.specs.Cells.{Placed}
 use Rattle.escpos_paper.specs.Printed.{printed}
 
 -- What commands leave: the dots of a line, which no command changes, the items on paper, the settings, the data of QR codes that is
--- stored, and the line that isn't printed yet.
+-- stored, the tab stops, and the line that isn't printed yet, with where its next cell stands.
 pub record Sheet : Type 0 where
   pub line_dots : ℕ
   pub items : List Item
   pub settings : Settings
   pub stored : Option (List ℕ)
-  pub line : List Cell
+  pub stops : List ℕ
+  pub line : Placed
 
 -- The model of a page: its sheet, and for how many more items it has room; for none, where it has no room for a copy of the data
 -- that is stored.
@@ -37,7 +38,8 @@ SheetIs width sheet kept cs = sheet ≡ record {
   items = kept ++ printed width cs;
   settings = settings cs;
   stored = stored cs;
-  line = line width cs;
+  stops = stops cs;
+  line = placed width cs;
 }
 
 -- The same for a page; its room is left open.

@@ -2,7 +2,7 @@
 use Rattle.std.specs.Prelude.{ℕ, nat_lt, true, List, [], ◌∷◌, ◌++◌, Option, None, Some, length, if◌then◌else◌}
 use Rattle.escpos_command.specs.declared.command.Command.{Command}
 use Rattle.escpos_command.specs.declared.command.Command.TheVariants as kind
-use Rattle.escpos_command.specs.declared.parameter.choices.Alignment.{Alignment}
+use Rattle.escpos_paper.specs.declared.style.Placing.{Placing}
 use Rattle.escpos_command.specs.Meanings.{choice, leaves_a_point, scale_of}
 use Rattle.escpos_command.specs.Barcodes.{Barcode}
 use Rattle.escpos_command.specs.Settings.{stored}
@@ -29,17 +29,17 @@ row_and_feed style [] = []
 row_and_feed style (x ∷ xs) = Row style.alignment style.upside_down (x ∷ xs) ∷ Feed 1 style.spacing ∷ []
 
 -- A barcode as an item, in the settings of barcodes, with the check digit that its content lacks.
-abbrev pub bars_item : Alignment → BarStyle → Barcode → Item
+abbrev pub bars_item : Placing → BarStyle → Barcode → Item
 bars_item align style bars =
     Bars align bars.symbology style.height style.module_width style.place style.hri_font bars.content
     (added_digit bars.symbology bars.content)
 
 -- A raster as an item.
-abbrev pub raster_item : Alignment → Picture → Item
+abbrev pub raster_item : Placing → Picture → Item
 raster_item align raster = Raster align (scale_of (choice raster.scale)) raster.width raster.height raster.dots
 
 -- A QR code as an item.
-abbrev pub qr_item : Alignment → QrStyle → List ℕ → Item
+abbrev pub qr_item : Placing → QrStyle → List ℕ → Item
 qr_item align style bytes = Qr align style.model style.size style.correction bytes
 
 -- The QR code of the data that is stored, after the line; nothing if none is.
@@ -66,6 +66,9 @@ prints width before (kind.QrModel n) = []
 prints width before (kind.QrSize n) = []
 prints width before (kind.QrLevel n) = []
 prints width before (kind.QrStore bytes) = []
+prints width before kind.Tab = []
+prints width before (kind.Position p) = []
+prints width before (kind.TabStops columns) = []
 prints width before kind.Return = []
 prints width before kind.Init = []
 prints width before (kind.Set s) = []

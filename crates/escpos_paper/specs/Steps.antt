@@ -1,22 +1,24 @@
 -- What one more command makes of the settings, line and paper. Only private clauses, the model of a page and proofs use these
 -- definitions; those of a whole list of commands are proved to agree with them.
-use Rattle.std.specs.Prelude.{ℕ, ◌-◌, ◌&&◌, not, Bool, true, List, [], ◌∷◌, ◌++◌, Option, None, if◌then◌else◌, vec_len, vec_capacity}
+use Rattle.std.specs.Prelude.{ℕ, ◌-◌, ◌&&◌, not, Bool, true, List, [], ◌∷◌, ◌++◌, Option, None, Some, if◌then◌else◌, vec_len, vec_capacity}
 use Rattle.escpos_command.specs.declared.command.Command.{Command}
 use Rattle.escpos_command.specs.declared.command.Command.TheVariants as kind
 use Rattle.escpos_command.specs.Meanings.{leaves_a_point}
+use Rattle.std.specs.Option.{unwrap_or}
 use Rattle.escpos_command.specs.Text.{ends_text, is_some}
-use Rattle.escpos_paper.specs.declared.cell.Cell.{Cell}
 use Rattle.escpos_paper.specs.declared.style.BarStyle.{BarStyle}
 use Rattle.escpos_paper.specs.declared.style.LineStyle.{LineStyle}
 use Rattle.escpos_paper.specs.declared.style.QrStyle.{QrStyle}
 use Rattle.escpos_paper.specs.declared.style.Settings.{Settings}
-use Rattle.escpos_paper.specs.declared.style.Style.{Style}
+use Rattle.escpos_paper.specs.declared.cell.Cell.{Cell}
 use Rattle.escpos_paper.specs.declared.paper.Paper.{Paper}
 use Rattle.escpos_paper.specs.declared.item.Item.{Item}
 use Rattle.escpos_paper.specs.declared.item.Item.TheVariants.{Feed, FeedUnits, Cut}
-use Rattle.escpos_paper.specs.Styles.{acts_at_line_start, is_empty, power_on_settings, set_after, style_after, sets_alignment, sets_upside_down, sets_spacing, sets_bar_height, sets_module_width, sets_hri_place, sets_hri_font, sets_qr_model, sets_qr_size, sets_correction}
+use Rattle.escpos_paper.specs.Dots.{area_dots}
+use Rattle.escpos_paper.specs.declared.style.Placing.{Placing}
+use Rattle.escpos_paper.specs.Styles.{acts_at_line_start, is_empty, power_on_settings, set_after, sets_stops, style_after, sets_alignment, sets_margin, sets_area, sets_upside_down, sets_spacing, sets_bar_height, sets_module_width, sets_hri_place, sets_hri_font, sets_qr_model, sets_qr_size, sets_correction}
 use Rattle.escpos_command.specs.Settings.{sets_stored}
-use Rattle.escpos_paper.specs.Cells.{cell}
+use Rattle.escpos_paper.specs.Cells.{Move, Placed, cell, move_of, moved_to, next_place, nothing_placed, place_after, placed_cell}
 use Rattle.escpos_paper.specs.Rows.{fits}
 use Rattle.escpos_paper.specs.Printed.{row_of, row_and_feed, bars_item, raster_item, prints_stored}
 use Rattle.escpos_paper.specs.Page.{Sheet, PageView, room_for_items}
@@ -33,9 +35,16 @@ bar_style_after s c = record {
 abbrev pub set_at_start : {X : Type 0} → Bool → (Command → Option X) → X → X → Command → X
 set_at_start is_line_empty sets start value c = if acts_at_line_start c && not is_line_empty then value else set_after sets start value c
 
+abbrev pub placing_after : Bool → Placing → Command → Placing
+placing_after is_line_empty p c = record {
+  side = set_at_start is_line_empty sets_alignment power_on_settings.lines.alignment.side p.side c;
+  margin = set_at_start is_line_empty sets_margin power_on_settings.lines.alignment.margin p.margin c;
+  width = set_at_start is_line_empty sets_area power_on_settings.lines.alignment.width p.width c;
+}
+
 abbrev pub line_style_after : Bool → LineStyle → Command → LineStyle
 line_style_after is_line_empty s c = record {
-  alignment = set_at_start is_line_empty sets_alignment power_on_settings.lines.alignment s.alignment c;
+  alignment = placing_after is_line_empty s.alignment c;
   upside_down = set_at_start is_line_empty sets_upside_down power_on_settings.lines.upside_down s.upside_down c;
   spacing = set_after sets_spacing power_on_settings.lines.spacing s.spacing c;
 }
@@ -56,26 +65,42 @@ settings_after is_line_empty s c = record {
   codes = qr_style_after s.codes c;
 }
 
--- The line with one more cell, which begins a new line where it doesn't fit.
-abbrev pub with_cell : ℕ → List Cell → Cell → List Cell
-with_cell width row x = if fits width (row ++ x ∷ []) then row ++ x ∷ [] else x ∷ []
+-- The line with one more cell where the next one stands; where that doesn't fit, it begins a new line.
+abbrev pub with_next : Placed → Cell → List Cell
+with_next p x = p.cells ++ placed_cell p.moved x ∷ []
 
-abbrev pub line_after : ℕ → Style → Option (List ℕ) → List Cell → Command → List Cell
-line_after width s stored row (kind.Char b) = with_cell width row (cell s b)
-line_after width s stored row kind.QrPrint = if is_some stored then [] else row
-line_after width s stored row c = if ends_text c then [] else row
+abbrev pub has_room : ℕ → Placed → Cell → Bool
+has_room area p x = fits area (with_next p x)
 
-abbrev pub step_prints : ℕ → Settings → Option (List ℕ) → List Cell → Command → List Item
-step_prints width s stored row (kind.Char b) = if fits width (row ++ cell s.text b ∷ []) then [] else row_and_feed s.lines row
-step_prints width s stored row kind.LineFeed = row_of s.lines row ++ Feed 1 s.lines.spacing ∷ []
-step_prints width s stored row (kind.FeedLines n) = row_of s.lines row ++ Feed n s.lines.spacing ∷ []
-step_prints width s stored row (kind.FeedUnits n) = row_of s.lines row ++ FeedUnits n ∷ []
-step_prints width s stored row (kind.Bars barcode) = row_and_feed s.lines row ++ bars_item s.lines.alignment s.bars barcode ∷ []
-step_prints width s stored row (kind.Raster raster) = row_and_feed s.lines row ++ raster_item s.lines.alignment raster ∷ []
-step_prints width s stored row (kind.Cut cut) = row_and_feed s.lines row ++ Cut (leaves_a_point cut.0) cut.1 ∷ []
-step_prints width s stored row (kind.OldCut b) = row_and_feed s.lines row ++ Cut true None ∷ []
-step_prints width s stored row kind.QrPrint = prints_stored s.lines s.codes stored row
-step_prints width s stored row _ = []
+abbrev pub with_cell : ℕ → Placed → Cell → Placed
+with_cell area p x = record { cells = if has_room area p x then with_next p x else x ∷ []; moved = None }
+
+-- The line after a move, if there is one.
+abbrev pub moved_by : ℕ → Placed → Option Move → Placed
+moved_by area p None = p
+moved_by area p (Some m) = moved_to p (place_after area (next_place p) m)
+
+-- The printing area of settings.
+abbrev pub area_of : ℕ → Settings → ℕ
+area_of width s = area_dots width s.lines.alignment
+
+abbrev pub line_after : ℕ → Settings → List ℕ → Option (List ℕ) → Placed → Command → Placed
+line_after width s stops stored p (kind.Char b) = with_cell (area_of width s) p (cell s.text b)
+line_after width s stops stored p kind.QrPrint = if is_some stored then nothing_placed else p
+line_after width s stops stored p c = if ends_text c then nothing_placed else moved_by (area_of width s) p (move_of stops c)
+
+-- What it prints.
+abbrev pub step_prints : ℕ → Settings → Option (List ℕ) → Placed → Command → List Item
+step_prints width s stored p (kind.Char b) = if has_room (area_of width s) p (cell s.text b) then [] else row_and_feed s.lines p.cells
+step_prints width s stored p kind.LineFeed = row_of s.lines p.cells ++ Feed 1 s.lines.spacing ∷ []
+step_prints width s stored p (kind.FeedLines n) = row_of s.lines p.cells ++ Feed n s.lines.spacing ∷ []
+step_prints width s stored p (kind.FeedUnits n) = row_of s.lines p.cells ++ FeedUnits n ∷ []
+step_prints width s stored p (kind.Bars barcode) = row_and_feed s.lines p.cells ++ bars_item s.lines.alignment s.bars barcode ∷ []
+step_prints width s stored p (kind.Raster raster) = row_and_feed s.lines p.cells ++ raster_item s.lines.alignment raster ∷ []
+step_prints width s stored p (kind.Cut cut) = row_and_feed s.lines p.cells ++ Cut (leaves_a_point cut.0) cut.1 ∷ []
+step_prints width s stored p (kind.OldCut b) = row_and_feed s.lines p.cells ++ Cut true None ∷ []
+step_prints width s stored p kind.QrPrint = prints_stored s.lines s.codes stored p.cells
+step_prints width s stored p _ = []
 
 -- What a paper has, as a sheet.
 abbrev pub sheet_on : Paper → Sheet
@@ -84,6 +109,7 @@ sheet_on paper = record {
   items = paper.items.items;
   settings = paper.settings;
   stored = paper.store.stored;
+  stops = paper.stops;
   line = paper.line;
 }
 
@@ -96,9 +122,10 @@ abbrev pub sheet_after : Sheet → Command → Sheet
 sheet_after sheet c = record {
   line_dots = sheet.line_dots;
   items = sheet.items ++ step_prints sheet.line_dots sheet.settings sheet.stored sheet.line c;
-  settings = settings_after (is_empty sheet.line) sheet.settings c;
+  settings = settings_after (is_empty sheet.line.cells) sheet.settings c;
   stored = set_after sets_stored None sheet.stored c;
-  line = line_after sheet.line_dots sheet.settings.text sheet.stored sheet.line c;
+  stops = unwrap_or (sets_stops sheet.settings.text c) sheet.stops;
+  line = line_after sheet.line_dots sheet.settings sheet.stops sheet.stored sheet.line c;
 }
 
 -- The sheet after these commands, one after another.

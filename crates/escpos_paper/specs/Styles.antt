@@ -1,7 +1,8 @@
 -- The settings after a list of commands. For each attribute the last command that sets it decides, of those
 -- after the last Init; where none sets it, it has its power-on value. (Reference: ESC SP, ESC !, ESC -, ESC E,
--- ESC G, ESC M, ESC R, ESC a, ESC r, ESC t, ESC {, ESC 2, ESC 3, GS !, GS B, GS h, GS w, GS H, GS f, GS ( k, ESC @.)
-use Rattle.std.specs.Prelude.{ℕ, ◌==◌, ◌&&◌, not, Bool, true, false, List, [], ◌∷◌, Option, None, Some, if◌then◌else◌}
+-- ESC D, ESC G, ESC M, ESC R, ESC V, ESC a, ESC r, ESC t, ESC {, ESC 2, ESC 3, GS !, GS B, GS L, GS W, GS h, GS w, GS H, GS f, GS ( k,
+-- ESC @.)
+use Rattle.std.specs.Prelude.{ℕ, ◌==◌, ◌*◌, ◌&&◌, not, Bool, true, false, List, [], ◌∷◌, Option, None, Some, map, option_to_list, if◌then◌else◌}
 use Rattle.std.specs.Option.{unwrap_or}
 use Rattle.escpos_command.specs.declared.command.Command.{Command}
 use Rattle.escpos_command.specs.declared.command.Command.TheVariants as kind
@@ -15,14 +16,17 @@ use Rattle.escpos_command.specs.declared.parameter.choices.Alignment.TheVariants
 use Rattle.escpos_command.specs.declared.parameter.choices.HriPosition.{HriPosition}
 use Rattle.escpos_command.specs.declared.parameter.choices.HriPosition.TheVariants.{Nowhere}
 use Rattle.escpos_command.specs.Meanings.{has_bit, choice, face_of, alignment_of, hri_position_of, face_of_mode, magnified, underline_of_mode, size_width, size_height, model_number, correction_of}
-use Rattle.escpos_command.specs.Settings.{is_init, setting}
+use Rattle.escpos_command.specs.declared.parameter.position.PositionKind.TheVariants as position
+use Rattle.escpos_command.specs.Settings.{is_init, last_or, setting}
 use Rattle.escpos_command.specs.SettingTable.{value}
 use Rattle.escpos_command.specs.Text.{text}
 use Rattle.escpos_paper.specs.declared.style.Style.{Style}
 use Rattle.escpos_paper.specs.declared.style.BarStyle.{BarStyle}
 use Rattle.escpos_paper.specs.declared.style.LineStyle.{LineStyle}
+use Rattle.escpos_paper.specs.declared.style.Placing.{Placing}
 use Rattle.escpos_paper.specs.declared.style.QrStyle.{QrStyle}
 use Rattle.escpos_paper.specs.declared.style.Settings.{Settings}
+use Rattle.escpos_paper.specs.Dots.{style_dots}
 use Rattle.escpos_paper.specs.OverPlaces.{over_places}
 
 -- Which commands set an attribute, and to what. ESC ! sets attributes that each have a command of their own, too.
@@ -76,6 +80,20 @@ sets_character_spacing _ = None
 abbrev pub sets_color : Command → Option ℕ
 sets_color (kind.Set (sets.Color, p)) = Some (choice (value p))
 sets_color _ = None
+
+-- Whether characters are turned.
+abbrev pub sets_turned : Command → Option Bool
+sets_turned (kind.Set (sets.Turned, p)) = Some (not (choice (value p) == 0))
+sets_turned _ = None
+
+-- The left margin, and the width of the printing area, in dots.
+abbrev pub sets_margin : Command → Option ℕ
+sets_margin (kind.Position (position.LeftMargin, n)) = Some n
+sets_margin _ = None
+
+abbrev pub sets_area : Command → Option (Option ℕ)
+sets_area (kind.Position (position.AreaWidth, n)) = Some (Some n)
+sets_area _ = None
 
 abbrev pub sets_alignment : Command → Option Alignment
 sets_alignment (kind.Set (sets.Align, p)) = Some (alignment_of (choice (value p)))
@@ -133,14 +151,19 @@ power_on = record {
   character_set = 0;
   spacing = 0;
   color = 0;
+  turned = false;
 }
+
+-- Its tab stops: each eighth character of font A, as far as the widest line has any. (Reference: ESC D.)
+abbrev pub usual_stops : List ℕ
+usual_stops = 96 ∷ 192 ∷ 288 ∷ 384 ∷ 480 ∷ 576 ∷ 672 ∷ 768 ∷ 864 ∷ 960 ∷ []
 
 -- All its settings. Init restores them.
 abbrev pub power_on_settings : Settings
 power_on_settings = record {
   text = power_on;
   bars = record { height = 162; module_width = 3; place = Nowhere; hri_font = A };
-  lines = record { alignment = Left; upside_down = false; spacing = None };
+  lines = record { alignment = record { side = Left; margin = 0; width = None }; upside_down = false; spacing = None };
   codes = record { model = 2; size = 3; correction = L };
 }
 
@@ -161,12 +184,13 @@ same_look s t =
     && s.underline == t.underline
 
 abbrev pub same_marks : Style → Style → Bool
-same_marks s t =
-    same_flag s.strike t.strike && same_flag s.reverse t.reverse && s.character_set == t.character_set && s.spacing == t.spacing
-    && s.color == t.color
+same_marks s t = same_flag s.strike t.strike && same_flag s.reverse t.reverse && s.character_set == t.character_set
+
+abbrev pub same_setting : Style → Style → Bool
+same_setting s t = s.spacing == t.spacing && s.color == t.color && same_flag s.turned t.turned
 
 abbrev pub same_style : Style → Style → Bool
-same_style s t = same_look s t && same_marks s t
+same_style s t = same_look s t && same_marks s t && same_setting s t
 
 -- The style that a character after the commands gets.
 abbrev pub style : List Command → Style
@@ -182,6 +206,7 @@ style cs = record {
   character_set = setting sets_character_set power_on.character_set cs;
   spacing = setting sets_character_spacing power_on.spacing cs;
   color = setting sets_color power_on.color cs;
+  turned = setting sets_turned power_on.turned cs;
 }
 
 -- The value of an attribute after a command.
@@ -202,6 +227,7 @@ style_after s c = record {
   character_set = set_after sets_character_set power_on.character_set s.character_set c;
   spacing = set_after sets_character_spacing power_on.spacing s.spacing c;
   color = set_after sets_color power_on.color s.color c;
+  turned = set_after sets_turned power_on.turned s.turned c;
 }
 
 -- The settings that a barcode after the commands gets.
@@ -225,10 +251,12 @@ abbrev pub is_empty : {X : Type 0} → List X → Bool
 is_empty [] = true
 is_empty (x ∷ xs) = false
 
--- An alignment, and whether lines are upside down, count only at the beginning of a line.
+-- An alignment, a margin, the width of the printing area, and whether lines are upside down, count only at the beginning of a line.
 abbrev pub acts_at_line_start : Command → Bool
 acts_at_line_start (kind.Set (sets.Align, p)) = true
 acts_at_line_start (kind.Set (sets.UpsideDown, p)) = true
+acts_at_line_start (kind.Position (position.LeftMargin, n)) = true
+acts_at_line_start (kind.Position (position.AreaWidth, n)) = true
 acts_at_line_start _ = false
 
 -- The command as a list of one, or nothing if it is one of these with text before it in its line: then it doesn't count.
@@ -239,13 +267,37 @@ if_it_counts before c following = if acts_at_line_start c && not (is_empty (text
 abbrev pub commands_that_count : List Command → List Command
 commands_that_count cs = over_places if_it_counts [] cs
 
--- How a line after the commands is printed and fed.
+-- Where a line after the commands stands.
+abbrev pub placing : List Command → Placing
+placing cs = record {
+  side = setting sets_alignment power_on_settings.lines.alignment.side (commands_that_count cs);
+  margin = setting sets_margin power_on_settings.lines.alignment.margin (commands_that_count cs);
+  width = setting sets_area power_on_settings.lines.alignment.width (commands_that_count cs);
+}
+
+-- How it is printed and fed.
 abbrev pub line_style : List Command → LineStyle
 line_style cs = record {
-  alignment = setting sets_alignment power_on_settings.lines.alignment (commands_that_count cs);
+  alignment = placing cs;
   upside_down = setting sets_upside_down power_on_settings.lines.upside_down (commands_that_count cs);
   spacing = setting sets_spacing power_on_settings.lines.spacing cs;
 }
+
+-- The tab stops that a command sets, in dots: columns of characters in a style.
+abbrev pub dots_of_columns : Style → List ℕ → List ℕ
+dots_of_columns s columns = map (λ n. n * style_dots s) columns
+
+abbrev pub sets_stops : Style → Command → Option (List ℕ)
+sets_stops s (kind.TabStops columns) = Some (dots_of_columns s columns)
+sets_stops s kind.Init = Some usual_stops
+sets_stops s _ = None
+
+-- The tab stops in dots: those that the last ESC D has set, in the style before it.
+abbrev pub stops_at : List Command → Command → List Command → List (List ℕ)
+stops_at before c following = option_to_list (sets_stops (style before) c)
+
+abbrev pub stops : List Command → List ℕ
+stops cs = last_or usual_stops (over_places stops_at [] cs)
 
 -- All settings after the commands.
 abbrev pub settings : List Command → Settings

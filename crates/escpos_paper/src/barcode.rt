@@ -5,13 +5,13 @@ ghost use Rattle.escpos_paper.specs.CheckDigit.{lacks_check_digit, added_digit};
 ghost use Rattle.escpos_paper.specs.Printed.{bars_item, raster_item};
 
 use crate::content::{Content, Dots};
-use crate::digits::check_digit;
+use crate::digits::check_digit_of;
 use crate::item::Item;
-use crate::style::BarStyle;
-use escpos_command::{Alignment, Bars, Raster, Symbology};
+use crate::style::{BarStyle, Placing};
+use escpos_command::{Bars, Raster, Symbology};
 
 /// A barcode in these settings, with the check digit that its content lacks.
-pub fn bars_item(align: Alignment, style: BarStyle, bars: Bars) -> Item
+pub fn bars_item(align: Placing, style: BarStyle, bars: Bars) -> Item
     ensures { result ≡ bars_item align style bars }
 {
     Item::Bars {
@@ -27,7 +27,7 @@ pub fn bars_item(align: Alignment, style: BarStyle, bars: Bars) -> Item
 }
 
 /// A raster.
-pub fn raster_item(align: Alignment, raster: Raster) -> Item
+pub fn raster_item(align: Placing, raster: Raster) -> Item
     ensures { result ≡ raster_item align raster }
 {
     Item::Raster {
@@ -45,7 +45,7 @@ pub fn added_digit(bars: &Bars) -> Option<u8>
 {
     let content = bars.content();
     if lacks_check_digit(bars.symbology(), content.len()) {
-        Some(check_digit(content))
+        Some(check_digit_of(bars.symbology(), content))
     } else {
         None
     }
@@ -57,6 +57,9 @@ fn lacks_check_digit(symbology: Symbology, length: usize) -> bool
 {
     matches!(
         (symbology, length),
-        (Symbology::UpcA, 11) | (Symbology::Ean13, 12) | (Symbology::Ean8, 7)
+        (Symbology::UpcA, 11)
+            | (Symbology::UpcE, 6 | 7 | 11)
+            | (Symbology::Ean13, 12)
+            | (Symbology::Ean8, 7)
     )
 }

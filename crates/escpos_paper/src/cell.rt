@@ -1,7 +1,8 @@
 //! The cells of a line: characters with the styles that they are printed in.
 
-ghost use Rattle.std.specs.Prelude.{◌≡◌, ◌+◌, ◌<◌, ◌≤◌, [], ◌∷◌, ◌++◌, length, map};
-ghost use Rattle.escpos_paper.specs.Cells.{face_dots, cell_dots, cell};
+ghost use Rattle.std.specs.Prelude.{◌≡◌, ◌+◌, ◌<◌, ◌≤◌, [], ◌∷◌, ◌++◌, length, map, take, None, IsTrue};
+ghost use Rattle.escpos_paper.specs.Cells.{BeginIn, IsRun, cell_dots, cell};
+ghost use Rattle.escpos_paper.specs.Dots.{face_dots, face_rows};
 ghost use Rattle.escpos_paper.specs.Styles.{power_on};
 
 use crate::style::Style;
@@ -21,12 +22,16 @@ pub struct Cell {
     pub byte: u8,
     /// How it is printed: the style that was set when it came.
     pub style: Style,
+    /// The dot of its left edge, from the left end of the printing area, where it doesn't follow the cell before it.
+    pub moved: Option<u16>,
 }
 
 impl Cell {
     /// How wide the cell is, in dots.
     pub fn dots(&self) -> usize
-        ensures { result ≡ cell_dots self.now }
+        ensures value { result ≡ cell_dots self.now }
+        ensures small { result ≤ 100_000 }
+        ensures narrow { self.now.style.width ≤ 8 → self.now.style.height ≤ 8 → result ≤ 2232 }
     {
         self.style.dots()
     }
@@ -43,6 +48,17 @@ pub fn face_dots(face: FontFace) -> usize
     }
 }
 
+/// How high a character of the font is, in dots.
+pub fn face_rows(face: FontFace) -> usize
+    ensures value { result ≡ face_rows face }
+    ensures small { result ≤ 24 }
+{
+    match face {
+        FontFace::A => 24,
+        FontFace::B => 17,
+    }
+}
+
 impl Default for Cell {
     ghost is_default = { λ x. x ≡ cell power_on 0x20 };
 
@@ -54,15 +70,19 @@ impl Default for Cell {
 
 /// The cells of a row, in order: at most 113. They are part of the value itself, so they allocate nothing.
 ///
-/// An array and its length, where `ArrayVec` would write all of its places anew whenever a line is taken out.
+/// An array and its length, where `ArrayVec` would write all of its places anew whenever a line is taken out. The length takes a byte: an item
+/// that has more than 2,048 is cleared a byte at a time.
 #[derive(Drop)]
 pub struct Cells {
     cells: [Cell; LINE_CELLS],
-    len: usize,
+    len: u8,
+    // So many of the first cells are known to be in one style, each but the first right after the one before it: the text of these is their bytes.
+    run: u8,
 }
 
 impl Model for Cells {
-    ghost use Rattle.std.specs.Prelude.{List, take, ◌≤◌};
+    ghost use Rattle.std.specs.Prelude.{List, length, take, ◌≡◌, ◌≤◌};
+    ghost use Rattle.escpos_paper.specs.Cells.{IsRun};
     ghost use Rattle.escpos_paper.specs.declared.cell.TheConstants.{LINE_CELLS};
     ghost use Rattle.escpos_paper.specs.declared.cell.Cell.{Cell};
 
@@ -70,7 +90,7 @@ impl Model for Cells {
 
     ghost view = { λ c. take c.len c.cells };
 
-    ghost invariant = { λ c. c.len ≤ LINE_CELLS };
+    ghost invariant = { λ c. (length c.cells ≡ LINE_CELLS) × (c.len ≤ LINE_CELLS) × (c.run ≤ c.len) × IsRun (take c.run (take c.len c.cells)) };
 }
 
 impl Cells {
@@ -81,6 +101,7 @@ impl Cells {
         Cells {
             cells: [Cell::default(); LINE_CELLS],
             len: 0,
+            run: 0,
         }
     }
 
@@ -89,18 +110,43 @@ impl Cells {
         requires { length self.old < LINE_CELLS }
         ensures { self.new ≡ self.old ++ cell ∷ [] }
     {
-        self.cells[self.len] = cell;
+        self.cells[usize::from(self.len)] = cell;
         self.len += 1;
     }
 
-    /// Puts characters of one style after the others. There must be room.
-    pub fn extend(&mut self, style: Style, text: &[u8])
-        requires { length self.old + length text.now ≤ LINE_CELLS }
-        ensures { self.new ≡ self.old ++ map (cell style) text.now }
+    /// Puts characters of one style after the others: cells like this one, each with its byte. There must be room.
+    // Not inlined, so that the cell is copied as a whole and not field by field.
+    #[inline(never)]
+    pub fn extend(&mut self, like: &Cell, text: &[u8])
+        requires room { length self.old + length text.now ≤ LINE_CELLS }
+        requires follows { like.now.moved ≡ None }
+        ensures { self.new ≡ self.old ++ map (cell like.now.style) text.now }
     {
+        let is_run = self.continues(&like.style);
+        let mut next = *like;
         for byte in text {
-            self.push(style.cell(*byte));
+            next.byte = *byte;
+            self.push(next);
         }
+        if is_run {
+            self.run = self.len;
+        }
+    }
+
+    // Whether all of the cells are known to be a run that a character of this style continues.
+    #[inline]
+    fn continues(&self, style: &Style) -> bool
+        ensures { IsTrue result → IsRun self.now × BeginIn style.now self.now }
+    {
+        self.run == self.len && (self.len == 0 || self.cells[0].style.is_same(style))
+    }
+
+    /// How many of the first cells are known to be a run: one style, and all but the first right after the one before.
+    pub fn run(&self) -> usize
+        ensures few { result ≤ length self.now }
+        ensures run { IsRun (take result self.now) }
+    {
+        usize::from(self.run)
     }
 
     /// The cells as a slice.
@@ -108,7 +154,7 @@ impl Cells {
         ensures cells { result.now ≡ self.now }
         ensures few { length result.now ≤ LINE_CELLS }
     {
-        &self.cells[..self.len]
+        &self.cells[..usize::from(self.len)]
     }
 
     /// Takes the cells out, and leaves none.
@@ -116,12 +162,14 @@ impl Cells {
         ensures taken { result ≡ self.old }
         ensures left { self.new ≡ [] }
     {
-        let taken = Cells {
-            cells: self.cells,
-            len: self.len,
-        };
+        let (len, run) = (self.len, self.run);
         self.len = 0;
-        taken
+        self.run = 0;
+        Cells {
+            cells: self.cells,
+            len,
+            run,
+        }
     }
 }
 

@@ -2,14 +2,15 @@
 
 use crate::cell::Cells;
 use crate::content::{Content, Dots, QrContent};
-use escpos_command::{Alignment, Correction, FontFace, HriPosition, Scale, Symbology};
+use crate::style::Placing;
+use escpos_command::{Correction, FontFace, HriPosition, Scale, Symbology};
 
 /// One item of the paper, from top to bottom.
 #[derive(Debug, Drop)]
 pub enum Item {
     /// A printed line.
     Row {
-        align: Alignment,
+        align: Placing,
         upside_down: bool,
         cells: Cells,
     },
@@ -22,7 +23,7 @@ pub enum Item {
     FeedUnits(u8),
     /// A barcode.
     Bars {
-        align: Alignment,
+        align: Placing,
         symbology: Symbology,
         /// The height in dots, 1 to 255.
         height: u8,
@@ -38,7 +39,7 @@ pub enum Item {
     },
     /// A picture made of dots.
     Raster {
-        align: Alignment,
+        align: Placing,
         scale: Scale,
         /// The bytes in each row, 1 to 128.
         x: u16,
@@ -49,7 +50,7 @@ pub enum Item {
     },
     /// A QR code.
     Qr {
-        align: Alignment,
+        align: Placing,
         /// The model, 1 or 2.
         model: u8,
         /// The size of a module in dots, 1 to 16.

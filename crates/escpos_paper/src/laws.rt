@@ -1,10 +1,9 @@
 //! Proof only: the laws of printing, each for lines of any width. The contract of each function is the law; when run, it does nothing. A law is proved
 //! with this crate, and another crate cites it by calling the function.
 
-ghost use Rattle.std.specs.Prelude.{◌≡◌, ◌<◌, ◌≤◌, ℕ, IsTrue, map, List, [], ◌∷◌, ◌++◌};
+ghost use Rattle.std.specs.Prelude.{◌≡◌, ◌<◌, ◌≤◌, ℕ, IsTrue, flat_map, None, List, [], ◌∷◌, ◌++◌};
 ghost use Rattle.escpos_command.specs.declared.command.Command.{Command};
 ghost use Rattle.escpos_command.specs.declared.command.Command.TheVariants.{Init, LineFeed, Mark};
-ghost use Rattle.escpos_paper.specs.declared.cell.Cell.{Cell};
 ghost use Rattle.escpos_paper.specs.declared.item.Item.{Item};
 ghost use Rattle.escpos_paper.specs.declared.item.Item.TheVariants.{Feed};
 ghost use Rattle.std.specs.List.{AllByRecursion};
@@ -13,17 +12,17 @@ ghost use Rattle.escpos_command.specs.Text.{text};
 ghost use Rattle.escpos_paper.specs.FirstPaper.{IsFirstItem};
 ghost use Rattle.escpos_paper.specs.SecondPaper.{IsSecondItem};
 ghost use Rattle.escpos_paper.specs.Styles.{is_empty, style, style_after, line_style};
-ghost use Rattle.escpos_paper.specs.Cells.{cells};
-ghost use Rattle.escpos_paper.specs.Rows.{IsCut, fits, rows, line};
+ghost use Rattle.escpos_paper.specs.Cells.{Entry, bytes_of_entry, entries};
+ghost use Rattle.escpos_paper.specs.Rows.{IsCut, area, fits, rows, line, moved};
 ghost use Rattle.escpos_paper.specs.Printed.{printed, row_of};
-ghost use Rattle.escpos_paper.specs.Typed.{IsTyping, typed, GoesOnLine};
+ghost use Rattle.escpos_paper.specs.Typed.{IsTyping, typed, GoesOnLine, from_place};
 ghost use Rattle.escpos_paper.specs.Page.{Sheet, SheetIs};
 ghost use Rattle.escpos_paper.specs.Torn.{below};
 ghost use Rattle.escpos_paper.specs.CheckDigit.{completes, digit};
 
-/// The cells of the line are the characters of its text, and the line is empty if there is no text.
+/// The characters of the line's entries are those of its text, and the line is empty if there is no text.
 pub fn cells_of_text()
-    ensures bytes { (cs : List Command) → map (λ (cell : Cell). cell.byte) (cells cs) ≡ text cs }
+    ensures bytes { (width : ℕ) (cs : List Command) → flat_map bytes_of_entry (entries width cs) ≡ text cs }
     ensures empty { (width : ℕ) (cs : List Command) → is_empty (line width cs) ≡ is_empty (text cs) }
 {}
 
@@ -32,23 +31,26 @@ pub fn styles_grow()
     ensures { (cs : List Command) (c : Command) → style (cs ++ c ∷ []) ≡ style_after (style cs) c }
 {}
 
-/// Widths: characters are printed at 1 to 8 times the width of their font.
+/// Widths and heights: characters are printed at 1 to 8 times those of their font.
 pub fn character_widths()
     ensures least { (cs : List Command) → 1 ≤ (style cs).width }
     ensures most { (cs : List Command) → (style cs).width ≤ 8 }
+    ensures least_height { (cs : List Command) → 1 ≤ (style cs).height }
+    ensures most_height { (cs : List Command) → (style cs).height ≤ 8 }
 {}
 
-/// One cut: the rows are a cut of the cells at the width of the line, and cells have no other cut.
+/// One cut: the rows are a cut of the line's entries at the width of the printing area, and entries have no other cut.
 pub fn one_cut()
-    ensures cut { (width : ℕ) (cs : List Command) → IsCut width (cells cs) (rows width cs) }
-    ensures no_other { (width : ℕ) (xs : List Cell) (found others : List (List Cell)) →
+    ensures cut { (width : ℕ) (cs : List Command) → IsCut (area width cs) (entries width cs) (rows width cs) }
+    ensures no_other { (width : ℕ) (xs : List Entry) (found others : List (List Entry)) →
         IsCut width xs found → IsCut width xs others → found ≡ others }
 {}
 
 /// Typed text: characters that fit on the line with what stands there print nothing, and neither do code tables that are selected
 /// between them. They stand on the line in the style that is set.
 pub fn typed_text()
-    ensures { (width : ℕ) (before cs : List Command) → AllByRecursion IsTyping cs → IsTrue (fits width (line width before ++ typed before cs))
+    ensures { (width : ℕ) (before cs : List Command) → AllByRecursion IsTyping cs
+        → IsTrue (fits (area width before) (line width before ++ from_place (moved width before) (typed before cs)))
         → GoesOnLine width before cs }
 {}
 
@@ -57,6 +59,7 @@ pub fn line_feeds()
     ensures prints { (width : ℕ) (cs : List Command) → printed width (cs ++ LineFeed ∷ [])
         ≡ printed width cs ++ (row_of (line_style cs) (line width cs) ++ Feed 1 (line_style cs).spacing ∷ []) }
     ensures empties { (width : ℕ) (cs : List Command) → line width (cs ++ LineFeed ∷ []) ≡ [] }
+    ensures follows { (width : ℕ) (cs : List Command) → moved width (cs ++ LineFeed ∷ []) ≡ None }
     ensures same_lines { (cs : List Command) → line_style (cs ++ LineFeed ∷ []) ≡ line_style cs }
 {}
 
@@ -98,7 +101,7 @@ pub fn first_profile()
 {}
 
 /// The second profile prints nothing that it hasn't: no line upside down, no feed with a spacing, and only characters whose
-/// strike, reverse and character set are as at power on.
+/// strike, reverse and character set are as at power on and that follow one another, in lines without a margin.
 pub fn second_profile()
     ensures { (width : ℕ) (cs : List Command) → AllByRecursion (λ c. IsTrue (in_profile 2 c)) cs → AllByRecursion IsSecondItem (printed width cs) }
 {}

@@ -4,14 +4,17 @@
 ghost use Rattle.std.specs.Prelude.{◌≡◌, ◌↔◌, ◌≤◌, IsTrue, Some};
 ghost use Rattle.escpos_command.specs.declared.command.Command.TheVariants as command;
 ghost use Rattle.escpos_command.specs.declared.setting.SettingKind.TheVariants as sets;
-ghost use Rattle.escpos_paper.specs.Styles.{power_on, power_on_settings, same_look, same_marks, same_style, style_after};
-ghost use Rattle.escpos_paper.specs.Cells.{cell, style_dots};
+ghost use Rattle.escpos_paper.specs.Styles.{power_on, power_on_settings, same_look, same_marks, same_setting, same_style, style_after};
+ghost use Rattle.escpos_command.specs.declared.parameter.position.PositionKind.TheVariants as position;
+ghost use Rattle.escpos_command.specs.declared.line_width.TheConstants.{MOST_LINE_DOTS};
+ghost use Rattle.escpos_paper.specs.Cells.{cell};
+ghost use Rattle.escpos_paper.specs.Dots.{area_dots, style_dots};
 ghost use Rattle.escpos_paper.specs.Steps.{line_style_after};
 
-use crate::cell::{Cell, face_dots};
+use crate::cell::{Cell, face_dots, face_rows};
 use escpos_command::{
-    Alignment, Correction, FontFace, HriPosition, SettingKind, alignment_of, choice, face_of,
-    face_of_mode, has_bit, magnified, size_height, size_width, underline_of_mode,
+    Alignment, Correction, FontFace, HriPosition, LineWidth, SettingKind, alignment_of, choice,
+    face_of, face_of_mode, has_bit, magnified, size_height, size_width, underline_of_mode,
 };
 
 /// How a printer prints characters, barcodes, lines and QR codes, as commands have set it. Init (ESC @) restores the power-on value of
@@ -26,7 +29,7 @@ pub struct Settings {
 
 impl Settings {
     /// The settings of a printer just switched on: characters as `Style::power_on` has them; barcodes 162 dots high, with modules of
-    /// 3 dots and no interpretation, its font A; lines at the left, upright, with the default spacing; QR codes of model 2, with
+    /// 3 dots and no interpretation, its font A; lines at the left, with no margin, upright, with the default spacing; QR codes of model 2, with
     /// modules of 3 dots and level L.
     pub fn power_on() -> Self
         ensures { result ≡ power_on_settings }
@@ -40,7 +43,11 @@ impl Settings {
                 hri_font: FontFace::A,
             },
             lines: LineStyle {
-                alignment: Alignment::Left,
+                alignment: Placing {
+                    side: Alignment::Left,
+                    margin: 0,
+                    width: None,
+                },
                 upside_down: false,
                 spacing: None,
             },
@@ -76,11 +83,13 @@ pub struct Style {
     pub spacing: u8,
     /// The number of the colour: 0, or 1 for the second one.
     pub color: u8,
+    /// Whether characters are turned by 90 degrees, clockwise.
+    pub turned: bool,
 }
 
 impl Style {
     /// The style of a printer just switched on: table 0, font A, size 1 by 1, no emphasis, no underline, no
-    /// double strike, black on white, character set 0, no space between characters, the first colour.
+    /// double strike, black on white, character set 0, no space between characters, the first colour, upright.
     pub fn power_on() -> Self
         ensures { result ≡ power_on }
     {
@@ -96,6 +105,7 @@ impl Style {
             character_set: 0,
             spacing: 0,
             color: 0,
+            turned: false,
         }
     }
 
@@ -103,15 +113,24 @@ impl Style {
     pub fn dots(&self) -> usize
         ensures value { result ≡ style_dots self.now }
         ensures small { result ≤ 100_000 }
+        ensures narrow { self.now.width ≤ 8 → self.now.height ≤ 8 → result ≤ 2232 }
     {
-        (face_dots(self.font) + self.spacing as usize) * self.width as usize
+        if self.turned {
+            (face_rows(self.font) + self.spacing as usize) * self.height as usize
+        } else {
+            (face_dots(self.font) + self.spacing as usize) * self.width as usize
+        }
     }
 
     /// A character in this style.
     pub fn cell(self, byte: u8) -> Cell
         ensures { result ≡ cell self byte }
     {
-        Cell { byte, style: self }
+        Cell {
+            byte,
+            style: self,
+            moved: None,
+        }
     }
 
     /// Whether the two styles are the same.
@@ -121,7 +140,7 @@ impl Style {
         ensures same { IsTrue result ↔ (self.now ≡ other.now) }
     {
         // Not `&&`: so the compiler compares eight bytes at once, and this is asked for each character.
-        self.has_same_look(other) & self.has_same_marks(other)
+        self.has_same_look(other) & self.has_same_marks(other) & self.has_same_setting(other)
     }
 
     // Whether all fields up to the underline are the same.
@@ -139,18 +158,28 @@ impl Style {
             & (self.underline == other.underline)
     }
 
-    // Whether all fields after the underline are the same.
+    // Whether strike, reverse and character set are the same.
     #[inline]
     fn has_same_marks(&self, other: &Style) -> bool
         ensures value { result ≡ same_marks self.now other.now }
         ensures same { IsTrue result ↔ ((self.now.strike ≡ other.now.strike) × (self.now.reverse ≡ other.now.reverse)
-            × (self.now.character_set ≡ other.now.character_set) × (self.now.spacing ≡ other.now.spacing) × (self.now.color ≡ other.now.color)) }
+            × (self.now.character_set ≡ other.now.character_set)) }
     {
         (self.strike == other.strike)
             & (self.reverse == other.reverse)
             & (self.character_set == other.character_set)
-            & (self.spacing == other.spacing)
+    }
+
+    // Whether spacing, colour and turn are the same.
+    #[inline]
+    fn has_same_setting(&self, other: &Style) -> bool
+        ensures value { result ≡ same_setting self.now other.now }
+        ensures same { IsTrue result ↔ ((self.now.spacing ≡ other.now.spacing) × (self.now.color ≡ other.now.color)
+            × (self.now.turned ≡ other.now.turned)) }
+    {
+        (self.spacing == other.spacing)
             & (self.color == other.color)
+            & (self.turned == other.turned)
     }
 
     /// The style after a setting of this kind with this parameter. One that sets nothing of a character leaves it.
@@ -197,6 +226,10 @@ impl Style {
                 color: choice(value),
                 ..self
             },
+            SettingKind::Turned => Style {
+                turned: choice(value) != 0,
+                ..self
+            },
             _ => self,
         }
     }
@@ -227,11 +260,37 @@ impl Style {
     }
 }
 
+/// Where a line stands, and where a barcode, a raster or a QR code does.
+#[derive(Clone, Copy, Debug, PartialEq, Eq)]
+pub struct Placing {
+    /// Its side of the printing area.
+    pub side: Alignment,
+    /// The left margin in dots.
+    pub margin: u16,
+    /// The width of the printing area in dots; `None` where all that is right of the margin is it. Beyond the line there is none.
+    pub width: Option<u16>,
+}
+
+impl Placing {
+    /// How many dots a line of this width has right of the margin for the printing area.
+    #[inline]
+    pub fn area_dots(self, line: LineWidth) -> usize
+        ensures value { result ≡ area_dots line self }
+        ensures within { result ≤ MOST_LINE_DOTS }
+    {
+        let most = line.dots().saturating_sub(self.margin);
+        match self.width {
+            Some(width) if width <= most => usize::from(width),
+            _ => usize::from(most),
+        }
+    }
+}
+
 /// How a line is printed and fed.
 #[derive(Clone, Copy, Debug, PartialEq, Eq)]
 pub struct LineStyle {
-    /// Where it stands, and where a barcode or a raster does.
-    pub alignment: Alignment,
+    /// Where it stands.
+    pub alignment: Placing,
     /// Whether it is printed upside down.
     pub upside_down: bool,
     /// How far the paper is fed for a line, in motion units; `None` for the default.
@@ -245,7 +304,44 @@ impl LineStyle {
     {
         if is_line_empty {
             LineStyle {
-                alignment: alignment_of(choice(align)),
+                alignment: Placing {
+                    side: alignment_of(choice(align)),
+                    ..self.alignment
+                },
+                ..self
+            }
+        } else {
+            self
+        }
+    }
+
+    // After GS L, which is ignored if the line has text.
+    pub(crate) fn with_margin(self, is_line_empty: bool, margin: u16) -> Self
+        ensures { result ≡ line_style_after is_line_empty self (command.Position (position.LeftMargin, margin)) }
+    {
+        if is_line_empty {
+            LineStyle {
+                alignment: Placing {
+                    margin,
+                    ..self.alignment
+                },
+                ..self
+            }
+        } else {
+            self
+        }
+    }
+
+    // After GS W, which is ignored if the line has text.
+    pub(crate) fn with_width(self, is_line_empty: bool, width: u16) -> Self
+        ensures { result ≡ line_style_after is_line_empty self (command.Position (position.AreaWidth, width)) }
+    {
+        if is_line_empty {
+            LineStyle {
+                alignment: Placing {
+                    width: Some(width),
+                    ..self.alignment
+                },
                 ..self
             }
         } else {

@@ -3,19 +3,20 @@
 //! All but the dots of a raster is short: it is appended in place to what the gather keeps back, and each function says
 //! what it appends and how much at most. The dots are put as digits, in parts. The loop over the items is `write_items`.
 
-ghost use Rattle.std.specs.Prelude.{◌≡◌, ◌+◌, ◌*◌, ◌≤◌, ◌<◌, [], ◌∷◌, ◌++◌, length, decimal, codes, flat_map};
+ghost use Rattle.std.specs.Prelude.{◌≡◌, ◌+◌, ◌*◌, ◌≤◌, ◌<◌, [], ◌∷◌, ◌++◌, length, take, decimal, codes, flat_map, if◌then◌else◌};
 ghost use Rattle.hex.specs.Hex.{encode_lower};
 ghost use Rattle.escpos_command.specs.QrCodes.{most_qr_data};
 ghost use Rattle.escpos_io.specs.Giving.{IsGiven};
 ghost use Rattle.escpos_io.specs.Putting.{passage};
+ghost use Rattle.escpos_paper.specs.Cells.{IsRun};
 ghost use Rattle.escpos_paper.specs.Styles.{power_on};
-ghost use Rattle.escpos_paper.specs.ItemsText.{color_field, spacing_field, is_plain, byte_text, style_text, face_name, flag_text, six_fields, has_six_fields, further_fields, cell_text, cells_text, align_name, symbology_name, place_name, scale_name, settings_text, content_text, correction_name, cut_name, upside_text, spacing_text, item_text};
+ghost use Rattle.escpos_paper.specs.ItemsText.{color_field, turned_field, spacing_field, dot_text, place_text, placed_text, run_text, first_place, row_text, margin_text, width_text, placing_text, row_placing, is_plain, byte_text, style_text, face_name, flag_text, six_fields, has_six_fields, further_fields, cell_text, cells_text, align_name, symbology_name, place_name, scale_name, settings_text, content_text, correction_name, cut_name, upside_text, spacing_text, item_text};
 ghost use Rattle.escpos_paper.specs.ItemParts.{front, dots_of, characters_of};
 
-use crate::cell::{Cell, Cells};
+use crate::cell::{Cell, Cells, LINE_CELLS};
 use crate::content::{Content, DOT_BYTES};
 use crate::item::Item;
-use crate::style::{BarStyle, Style};
+use crate::style::{BarStyle, Placing, Style};
 use escpos_command::{Alignment, Correction, FontFace, HriPosition, LF, Scale, Symbology};
 use escpos_io::{
     ByteOut, Device, GATHERED_BYTES, Gather, Piece, append_digits_after, append_small_number,
@@ -24,10 +25,10 @@ use escpos_io::{
 use itoa::Buffer;
 
 /// The most bytes of a line that are appended to a gather at once: all but the dots of a raster. (A row has at most 113
-/// cells of at most 40 bytes, a barcode a content of at most 255 characters of at most 3 bytes.)
-const LINE_BYTES: usize = 5120;
+/// cells of at most 53 bytes, a barcode a content of at most 255 characters of at most 3 bytes.)
+const LINE_BYTES: usize = 6144;
 
-const _: () = prove!(LINE_BYTES == 5120);
+const _: () = prove!(LINE_BYTES == 6144);
 
 /// An item is put as its line.
 impl Piece for Item {
@@ -97,9 +98,10 @@ fn append_front(gather: &mut Gather, item: &Item)
             cells,
         } => {
             gather.extend(b"row ");
-            append_word(gather, align_name(*align));
+            append_row_placing(gather, *align, *upside_down);
+            gather.push(b' ');
             gather.extend(upside_text(*upside_down));
-            append_cells(gather, cells);
+            append_row(gather, align.margin, cells);
         }
         Item::Feed { lines, spacing } => {
             gather.extend(b"feed ");
@@ -127,7 +129,8 @@ fn append_front(gather: &mut Gather, item: &Item)
                 hri_font: *hri_font,
             };
             gather.extend(b"bars ");
-            append_word(gather, align_name(*align));
+            append_placing(gather, *align);
+            gather.push(b' ');
             append_word(gather, symbology_name(*symbology));
             append_settings(gather, style);
             append_content(gather, content, *added);
@@ -140,7 +143,8 @@ fn append_front(gather: &mut Gather, item: &Item)
             ..
         } => {
             gather.extend(b"raster ");
-            append_word(gather, align_name(*align));
+            append_placing(gather, *align);
+            gather.push(b' ');
             append_word(gather, scale_name(*scale));
             append_size(gather, *x);
             append_size(gather, *y);
@@ -153,7 +157,8 @@ fn append_front(gather: &mut Gather, item: &Item)
             ..
         } => {
             gather.extend(b"qr ");
-            append_word(gather, align_name(*align));
+            append_placing(gather, *align);
+            gather.push(b' ');
             append_size(gather, u16::from(*model));
             append_size(gather, u16::from(*size));
             append_word(gather, correction_name(*level));
@@ -167,6 +172,69 @@ fn append_front(gather: &mut Gather, item: &Item)
             }
         }
     }
+}
+
+// Appends where an item stands.
+fn append_placing(gather: &mut Gather, placing: Placing)
+    requires { length gather.old.kept + 32 ≤ GATHERED_BYTES }
+    ensures kept { gather.new.kept ≡ gather.old.kept ++ placing_text placing }
+    ensures same_count { gather.new.written ≡ gather.old.written }
+    ensures short { length (placing_text placing) ≤ 32 }
+{
+    gather.extend(align_name(placing.side));
+    append_margin(gather, placing.margin);
+    append_width(gather, placing.width);
+}
+
+// Appends where a row stands.
+fn append_row_placing(gather: &mut Gather, placing: Placing, upside_down: bool)
+    requires { length gather.old.kept + 32 ≤ GATHERED_BYTES }
+    ensures kept { gather.new.kept ≡ gather.old.kept ++ row_placing placing upside_down }
+    ensures same_count { gather.new.written ≡ gather.old.written }
+    ensures short { length (row_placing placing upside_down) ≤ 32 }
+{
+    if matches!(placing.side, Alignment::Left) && !upside_down {
+        gather.extend(align_name(placing.side));
+    } else {
+        append_placing(gather, placing);
+    }
+}
+
+// Appends the margin, if there is one.
+fn append_margin(gather: &mut Gather, margin: u16)
+    requires { length gather.old.kept + 13 ≤ GATHERED_BYTES }
+    ensures kept { gather.new.kept ≡ gather.old.kept ++ margin_text margin }
+    ensures same_count { gather.new.written ≡ gather.old.written }
+    ensures short { length (margin_text margin) ≤ 13 }
+{
+    if margin != 0 {
+        gather.extend(b" margin ");
+        append_dots(gather, margin);
+    }
+}
+
+// Appends the width of the printing area, if it is set.
+fn append_width(gather: &mut Gather, width: Option<u16>)
+    requires { length gather.old.kept + 12 ≤ GATHERED_BYTES }
+    ensures kept { gather.new.kept ≡ gather.old.kept ++ width_text width }
+    ensures same_count { gather.new.written ≡ gather.old.written }
+    ensures short { length (width_text width) ≤ 12 }
+{
+    if let Some(dots) = width {
+        gather.extend(b" width ");
+        append_dots(gather, dots);
+    }
+}
+
+// Appends a number of up to five digits.
+fn append_dots(gather: &mut Gather, dots: u16)
+    requires { length gather.old.kept + 5 ≤ GATHERED_BYTES }
+    ensures kept { gather.new.kept ≡ gather.old.kept ++ decimal dots }
+    ensures same_count { gather.new.written ≡ gather.old.written }
+    ensures short { length (decimal dots) ≤ 5 }
+{
+    let mut buffer = Buffer::new();
+    gather.extend(buffer.format(dots).as_bytes());
 }
 
 // Appends a word and a space.
@@ -202,7 +270,8 @@ fn append_settings(gather: &mut Gather, style: BarStyle)
     append_small_number(gather, style.module_width);
     gather.push(b' ');
     append_word(gather, place_name(style.place));
-    append_word(gather, face_name(style.hri_font));
+    gather.push(face_letter(style.hri_font));
+    gather.push(b' ');
 }
 
 // Appends the content of a barcode and the check digit that is added.
@@ -247,12 +316,15 @@ fn symbology_name(symbology: Symbology) -> &'static [u8]
 {
     match symbology {
         Symbology::UpcA => b"upca",
+        Symbology::UpcE => b"upce",
         Symbology::Ean13 => b"ean13",
         Symbology::Ean8 => b"ean8",
         Symbology::Code39 => b"code39",
         Symbology::Itf => b"itf",
         Symbology::Codabar => b"codabar",
+        Symbology::Code93 => b"code93",
         Symbology::Code128 => b"code128",
+        Symbology::Gs1Code128 => b"gs1_128",
     }
 }
 
@@ -319,28 +391,123 @@ fn append_spacing(gather: &mut Gather, spacing: Option<u8>)
     }
 }
 
-// Appends the cells of a row.
-fn append_cells(gather: &mut Gather, cells: &Cells)
-    requires { length gather.old.kept + 4520 ≤ GATHERED_BYTES }
-    ensures kept { gather.new.kept ≡ gather.old.kept ++ cells_text power_on cells.now }
+// Appends the cells of a row, right of this margin.
+fn append_row(gather: &mut Gather, margin: u16, cells: &Cells)
+    requires { length gather.old.kept + 5989 ≤ GATHERED_BYTES }
+    ensures kept { gather.new.kept ≡ gather.old.kept ++ row_text margin cells.now }
     ensures same_count { gather.new.written ≡ gather.old.written }
-    ensures short { length (cells_text power_on cells.now) ≤ 4520 }
+    ensures short { length (row_text margin cells.now) ≤ 5989 }
 {
     let row = cells.as_slice();
-    let mut before = Style::power_on();
-    for cell in row {
-        append_cell(gather, &before, cell);
-        before = cell.style;
+    if let Some((first, others)) = row.split_first() {
+        append_first_place(gather, margin, first);
+        append_cell(gather, &Style::power_on(), first);
+        append_others(gather, margin, first, others, cells.run());
+    }
+}
+
+// Appends the cells after the first one of a row, whose first cells, so many, are a run.
+#[inline]
+fn append_others(gather: &mut Gather, margin: u16, first: &Cell, others: &[Cell], run: usize)
+    requires is_run { IsRun (take run (first.now ∷ others.now)) }
+    requires in_row { run ≤ length others.now + 1 }
+    requires few { length others.now ≤ LINE_CELLS }
+    requires room { length gather.old.kept + 53 * length others.now ≤ GATHERED_BYTES }
+    ensures kept { gather.new.kept ≡ gather.old.kept ++ cells_text margin first.now.style others.now }
+    ensures same_count { gather.new.written ≡ gather.old.written }
+    ensures short { length (cells_text margin first.now.style others.now) ≤ 53 * length others.now }
+{
+    let (run, rest) = others.split_at(run.saturating_sub(1));
+    append_run(gather, run);
+    append_cells(gather, margin, &first.style, rest);
+}
+
+// Appends cells that follow one another, in the style of those before them.
+fn append_run(gather: &mut Gather, cells: &[Cell])
+    requires { length gather.old.kept + 3 * length cells.now ≤ GATHERED_BYTES }
+    ensures kept { gather.new.kept ≡ gather.old.kept ++ run_text cells.now }
+    ensures same_count { gather.new.written ≡ gather.old.written }
+    ensures short { length (run_text cells.now) ≤ 3 * length cells.now }
+{
+    for cell in cells {
+        append_byte(gather, cell.byte);
+    }
+}
+
+// Appends where the first cell of a row stands.
+fn append_first_place(gather: &mut Gather, margin: u16, cell: &Cell)
+    requires { length gather.old.kept + 11 ≤ GATHERED_BYTES }
+    ensures kept { gather.new.kept ≡ gather.old.kept ++ first_place margin cell.now }
+    ensures same_count { gather.new.written ≡ gather.old.written }
+    ensures short { length (first_place margin cell.now) ≤ 11 }
+{
+    match (margin, cell.moved) {
+        (0, None) => {}
+        (_, moved) => append_dot(gather, margin, moved.unwrap_or(0)),
+    }
+}
+
+// Appends a dot this far right of a margin.
+#[inline(never)]
+fn append_dot(gather: &mut Gather, margin: u16, dot: u16)
+    requires { length gather.old.kept + 11 ≤ GATHERED_BYTES }
+    ensures kept { gather.new.kept ≡ gather.old.kept ++ dot_text (margin + dot) }
+    ensures same_count { gather.new.written ≡ gather.old.written }
+    ensures short { length (dot_text (margin + dot)) ≤ 11 }
+{
+    gather.push(b'@');
+    let mut buffer = Buffer::new();
+    gather.extend(buffer.format(u32::from(margin) + u32::from(dot)).as_bytes());
+}
+
+// Appends cells after one of the style `before`, right of this margin.
+fn append_cells<'a>(gather: &mut Gather, margin: u16, before: &'a Style, cells: &'a [Cell])
+    requires few { length cells.now ≤ LINE_CELLS }
+    requires room { length gather.old.kept + 53 * length cells.now ≤ GATHERED_BYTES }
+    ensures kept { gather.new.kept ≡ gather.old.kept ++ cells_text margin before.now cells.now }
+    ensures same_count { gather.new.written ≡ gather.old.written }
+    ensures short { length (cells_text margin before.now cells.now) ≤ 53 * length cells.now }
+{
+    // Two styles in memory are compared eight bytes at once.
+    let mut last = before;
+    for cell in cells {
+        append_placed(gather, margin, last, cell);
+        last = &cell.style;
+    }
+}
+
+// Appends a cell that follows one of the style `before`, and where it stands, if it doesn't follow that.
+#[inline]
+fn append_placed(gather: &mut Gather, margin: u16, before: &Style, cell: &Cell)
+    requires { length gather.old.kept + 53 ≤ GATHERED_BYTES }
+    ensures kept { gather.new.kept ≡ gather.old.kept ++ placed_text margin before.now cell.now }
+    ensures same_count { gather.new.written ≡ gather.old.written }
+    ensures short { length (placed_text margin before.now cell.now) ≤ 53 }
+{
+    append_place(gather, margin, cell.moved);
+    append_cell(gather, before, cell);
+}
+
+// Appends a place, if there is one.
+#[inline]
+fn append_place(gather: &mut Gather, margin: u16, moved: Option<u16>)
+    requires { length gather.old.kept + 11 ≤ GATHERED_BYTES }
+    ensures kept { gather.new.kept ≡ gather.old.kept ++ place_text margin moved }
+    ensures same_count { gather.new.written ≡ gather.old.written }
+    ensures short { length (place_text margin moved) ≤ 11 }
+{
+    if let Some(dot) = moved {
+        append_dot(gather, margin, dot);
     }
 }
 
 // Appends a cell that follows one of the style `before`.
 #[inline]
 fn append_cell(gather: &mut Gather, before: &Style, cell: &Cell)
-    requires { length gather.old.kept + 40 ≤ GATHERED_BYTES }
+    requires { length gather.old.kept + 42 ≤ GATHERED_BYTES }
     ensures kept { gather.new.kept ≡ gather.old.kept ++ cell_text before.now cell.now }
     ensures same_count { gather.new.written ≡ gather.old.written }
-    ensures short { length (cell_text before.now cell.now) ≤ 40 }
+    ensures short { length (cell_text before.now cell.now) ≤ 42 }
 {
     if !before.is_same(&cell.style) {
         append_style(gather, &cell.style);
@@ -350,10 +517,10 @@ fn append_cell(gather: &mut Gather, before: &Style, cell: &Cell)
 
 #[inline(never)]
 fn append_style(gather: &mut Gather, style: &Style)
-    requires { length gather.old.kept + 37 ≤ GATHERED_BYTES }
+    requires { length gather.old.kept + 39 ≤ GATHERED_BYTES }
     ensures kept { gather.new.kept ≡ gather.old.kept ++ style_text style.now }
     ensures same_count { gather.new.written ≡ gather.old.written }
-    ensures short { length (style_text style.now) ≤ 37 }
+    ensures short { length (style_text style.now) ≤ 39 }
 {
     gather.push(b'[');
     append_six_fields(gather, style);
@@ -367,60 +534,70 @@ fn append_six_fields(gather: &mut Gather, style: &Style)
     ensures same_count { gather.new.written ≡ gather.old.written }
     ensures short { length (six_fields style.now) ≤ 19 }
 {
-    gather.extend(face_name(style.font));
+    gather.push(face_letter(style.font));
     append_attribute(gather, style.width);
     append_attribute(gather, style.height);
     gather.push(b',');
-    gather.extend(flag_text(style.bold));
+    gather.push(flag_digit(style.bold));
     append_attribute(gather, style.underline);
     append_attribute(gather, style.table);
 }
 
-// Appends the fields for strike, reverse, character set, spacing and colour, unless these are as at power on.
+// Appends the fields for strike, reverse, character set, spacing, colour and turn, unless these are as at power on.
 fn append_further_fields(gather: &mut Gather, style: &Style)
-    requires { length gather.old.kept + 16 ≤ GATHERED_BYTES }
+    requires { length gather.old.kept + 18 ≤ GATHERED_BYTES }
     ensures kept { gather.new.kept ≡ gather.old.kept ++ further_fields style.now }
     ensures same_count { gather.new.written ≡ gather.old.written }
-    ensures short { length (further_fields style.now) ≤ 16 }
+    ensures short { length (further_fields style.now) ≤ 18 }
 {
     if has_six_fields(style) {
         return;
     }
     gather.push(b',');
-    gather.extend(flag_text(style.strike));
+    gather.push(flag_digit(style.strike));
     gather.push(b',');
-    gather.extend(flag_text(style.reverse));
+    gather.push(flag_digit(style.reverse));
     append_attribute(gather, style.character_set);
     append_character_spacing(gather, style);
 }
 
-// Appends the fields for the space to the right of a character and for its colour, where they are due.
+// Appends the fields for the space to the right of a character, for its colour and for its turn, where they are due.
 fn append_character_spacing(gather: &mut Gather, style: &Style)
-    requires { length gather.old.kept + 8 ≤ GATHERED_BYTES }
+    requires { length gather.old.kept + 10 ≤ GATHERED_BYTES }
     ensures kept { gather.new.kept ≡ gather.old.kept ++ spacing_field style.now }
     ensures same_count { gather.new.written ≡ gather.old.written }
-    ensures short { length (spacing_field style.now) ≤ 8 }
+    ensures short { length (spacing_field style.now) ≤ 10 }
 {
-    if style.spacing == 0 && style.color == 0 {
+    if style.spacing == 0 && style.color == 0 && !style.turned {
         return;
     }
     append_attribute(gather, style.spacing);
     append_color(gather, style);
 }
 
-// Appends the field for a second colour.
+// Appends the fields for the colour and for the turn, where they are due.
 fn append_color(gather: &mut Gather, style: &Style)
-    requires { length gather.old.kept + 4 ≤ GATHERED_BYTES }
+    requires { length gather.old.kept + 6 ≤ GATHERED_BYTES }
     ensures kept { gather.new.kept ≡ gather.old.kept ++ color_field style.now }
     ensures same_count { gather.new.written ≡ gather.old.written }
-    ensures short { length (color_field style.now) ≤ 4 }
+    ensures short { length (color_field style.now) ≤ 6 }
 {
-    if style.color != 0 {
-        append_attribute(gather, style.color);
+    if style.color == 0 && !style.turned {
+        return;
     }
+    append_attribute(gather, style.color);
+    gather.extend(turned_field(style.turned));
 }
 
-// Whether strike, reverse, character set, spacing and colour are as at power on.
+// The field of characters that are turned.
+fn turned_field(turned: bool) -> &'static [u8]
+    ensures field { result.now ≡ (if turned then codes ",1" else []) }
+    ensures short { length result.now ≤ 2 }
+{
+    if turned { b",1" } else { b"" }
+}
+
+// Whether strike, reverse, character set, spacing, colour and turn are as at power on.
 fn has_six_fields(style: &Style) -> bool
     ensures { result ≡ has_six_fields style.now }
 {
@@ -429,24 +606,23 @@ fn has_six_fields(style: &Style) -> bool
         && style.character_set == 0
         && style.spacing == 0
         && style.color == 0
+        && !style.turned
 }
 
-fn face_name(face: FontFace) -> &'static [u8]
-    ensures name { result.now ≡ face_name face }
-    ensures short { length result.now ≡ 1 }
+fn face_letter(face: FontFace) -> u8
+    ensures { result ∷ [] ≡ face_name face }
 {
     match face {
-        FontFace::A => b"A",
-        FontFace::B => b"B",
+        FontFace::A => b'A',
+        FontFace::B => b'B',
     }
 }
 
 // 1 or 0.
-fn flag_text(flag: bool) -> &'static [u8]
-    ensures text { result.now ≡ flag_text flag }
-    ensures short { length result.now ≡ 1 }
+fn flag_digit(flag: bool) -> u8
+    ensures { result ∷ [] ≡ flag_text flag }
 {
-    if flag { b"1" } else { b"0" }
+    if flag { b'1' } else { b'0' }
 }
 
 // Appends a comma and a number.

@@ -82,7 +82,7 @@ const COUNT_BYTE: Counted = Counted {
 };
 
 /// How many rows there are.
-pub const COUNT: usize = 118;
+pub const COUNT: usize = 107;
 
 // A row for each line: its prefix, how the length of what follows is told, and the third byte with which it isn't the command.
 macro_rules! rows {
@@ -93,8 +93,6 @@ macro_rules! rows {
 
 /// The table, in the order of the prefixes.
 pub const TABLE: [Row; COUNT] = rows! {
-    // HT
-    Prefix::One(0x09), Form::Fixed(0), None;
     // FF
     Prefix::One(0x0C), Form::Fixed(0), None;
     // DLE EOT
@@ -114,8 +112,6 @@ pub const TABLE: [Row; COUNT] = rows! {
     Prefix::One(0x18), Form::Fixed(0), None;
     // ESC FF
     Prefix::Two(ESC, 0x0C), Form::Fixed(0), None;
-    // ESC $
-    Prefix::Two(ESC, b'$'), Form::Fixed(2), None;
     // ESC %
     Prefix::Two(ESC, b'%'), Form::Fixed(1), None;
     // ESC &
@@ -137,8 +133,6 @@ pub const TABLE: [Row; COUNT] = rows! {
     Prefix::Two(ESC, b'A'), Form::Fixed(1), None;
     // ESC B
     Prefix::Two(ESC, b'B'), Form::Fixed(2), None;
-    // ESC D
-    Prefix::Two(ESC, b'D'), Form::Until { end: 0, times: 1 }, None;
     // ESC K
     Prefix::Two(ESC, b'K'), Form::Fixed(1), None;
     // ESC L
@@ -149,12 +143,8 @@ pub const TABLE: [Row; COUNT] = rows! {
     Prefix::Two(ESC, b'S'), Form::Fixed(0), None;
     // ESC T
     Prefix::Two(ESC, b'T'), Form::Fixed(1), None;
-    // ESC V
-    Prefix::Two(ESC, b'V'), Form::Fixed(1), None;
     // ESC W
     Prefix::Two(ESC, b'W'), Form::Fixed(8), None;
-    // ESC \
-    Prefix::Two(ESC, b'\\'), Form::Fixed(2), None;
     // ESC c 0
     Prefix::Three(ESC, b'c', b'0'), Form::Fixed(1), None;
     // ESC c 1
@@ -273,16 +263,12 @@ pub const TABLE: [Row; COUNT] = rows! {
     Prefix::Two(GS, b'D'), Form::Long { before: 13, at: 9, less: 6 }, None;
     // GS I
     Prefix::Two(GS, b'I'), Form::Fixed(1), None;
-    // GS L
-    Prefix::Two(GS, b'L'), Form::Fixed(2), None;
     // GS P
     Prefix::Two(GS, b'P'), Form::Fixed(2), None;
     // GS Q 0
     Prefix::Three(GS, b'Q', b'0'), Form::Counted(Counted { before: 5, number: Number::Word(1), again: Some(Number::Word(3)), unit: 1 }), None;
     // GS T
     Prefix::Two(GS, b'T'), Form::Fixed(1), None;
-    // GS W
-    Prefix::Two(GS, b'W'), Form::Fixed(2), None;
     // GS \
     Prefix::Two(GS, b'\\'), Form::Fixed(2), None;
     // GS ^
@@ -296,10 +282,6 @@ pub const TABLE: [Row; COUNT] = rows! {
     // GS j
     Prefix::Two(GS, b'j'), Form::Fixed(1), None;
     // GS k
-    Prefix::With(GS, b'k', 0x01), Form::Until { end: 0, times: 1 }, None;
-    Prefix::With(GS, b'k', 0x42), Form::Counted(COUNT_BYTE), None;
-    Prefix::With(GS, b'k', 0x48), Form::Counted(COUNT_BYTE), None;
-    Prefix::With(GS, b'k', 0x4A), Form::Counted(COUNT_BYTE), None;
     Prefix::With(GS, b'k', 0x4B), Form::Counted(COUNT_BYTE), None;
     Prefix::With(GS, b'k', 0x4C), Form::Counted(COUNT_BYTE), None;
     Prefix::With(GS, b'k', 0x4D), Form::Counted(COUNT_BYTE), None;

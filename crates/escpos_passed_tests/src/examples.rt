@@ -4,8 +4,7 @@ use escpos_passed::{Found, find};
 use std::process::Abort;
 
 // A whole command each: single bytes, real-time requests, and those that begin with ESC.
-const ESC_EXAMPLES: [(&str, &[u8]); 40] = [
-    ("HT", b"\x09"),
+const ESC_EXAMPLES: [(&str, &[u8]); 35] = [
     ("FF", b"\x0C"),
     ("DLE EOT", b"\x10\x04\x05"),
     ("DLE EOT", b"\x10\x04\x07\x01"),
@@ -17,7 +16,6 @@ const ESC_EXAMPLES: [(&str, &[u8]); 40] = [
     ("DLE DC4", b"\x10\x14\x08\x01\x03\x14\x01\x06\x02\x08"),
     ("CAN", b"\x18"),
     ("ESC FF", b"\x1B\x0C"),
-    ("ESC $", b"\x1B\x24\x40\x00"),
     ("ESC %", b"\x1B\x25\x00"),
     ("ESC &", b"\x1B\x26\x03\x41\x42\x01\xAA\xBB\xCC\x00"),
     ("ESC ( A", b"\x1B\x28\x41\x04\x00\x61\x01\x01\x02"),
@@ -28,15 +26,12 @@ const ESC_EXAMPLES: [(&str, &[u8]); 40] = [
     ("ESC ?", b"\x1B\x3F\x41"),
     ("ESC A", b"\x1B\x41\x0A"),
     ("ESC B", b"\x1B\x42\x02\x04"),
-    ("ESC D", b"\x1B\x44\x08\x10\x18\x00"),
     ("ESC K", b"\x1B\x4B\x18"),
     ("ESC L", b"\x1B\x4C"),
     ("ESC Q", b"\x1B\x51\x28"),
     ("ESC S", b"\x1B\x53"),
     ("ESC T", b"\x1B\x54\x00"),
-    ("ESC V", b"\x1B\x56\x01"),
     ("ESC W", b"\x1B\x57\x00\x00\x00\x00\x00\x02\x00\x01"),
-    ("ESC \\", b"\x1B\x5C\x10\x00"),
     ("ESC c 0", b"\x1B\x63\x30\x04"),
     ("ESC c 1", b"\x1B\x63\x31\x01"),
     ("ESC e", b"\x1B\x65\x01"),
@@ -80,7 +75,7 @@ const FS_EXAMPLES: [(&str, &[u8]); 22] = [
 ];
 
 // Those that begin with GS.
-const GS_EXAMPLES: [(&str, &[u8]); 53] = [
+const GS_EXAMPLES: [(&str, &[u8]); 47] = [
     ("GS FF", b"\x1D\x0C"),
     ("GS $", b"\x1D\x24\x40\x00"),
     ("GS ( A", b"\x1D\x28\x41\x02\x00\x00\x02"),
@@ -132,24 +127,15 @@ const GS_EXAMPLES: [(&str, &[u8]); 53] = [
         b"\x1D\x44\x30\x43\x30\x41\x42\x30\x31\x42\x4D\x0A\x00\x00\x00\x00\x00\x00\x00",
     ),
     ("GS I", b"\x1D\x49\x43"),
-    ("GS L", b"\x1D\x4C\x10\x00"),
     ("GS P", b"\x1D\x50\xB4\xB4"),
     ("GS Q 0", b"\x1D\x51\x30\x00\x02\x00\x01\x00\xFF\x81"),
     ("GS T", b"\x1D\x54\x01"),
-    ("GS W", b"\x1D\x57\x00\x02"),
     ("GS \\", b"\x1D\x5C\x10\x00"),
     ("GS ^", b"\x1D\x5E\x01\x00\x00"),
     ("GS c", b"\x1D\x63"),
     ("GS g 0", b"\x1D\x67\x30\x00\x14\x00"),
     ("GS g 2", b"\x1D\x67\x32\x00\x14\x00"),
     ("GS j", b"\x1D\x6A\x00"),
-    ("GS k", b"\x1D\x6B\x01\x30\x31\x32\x33\x34\x35\x00"),
-    ("GS k", b"\x1D\x6B\x42\x06\x30\x31\x32\x33\x34\x35"),
-    ("GS k", b"\x1D\x6B\x48\x02\x41\x42"),
-    (
-        "GS k",
-        b"\x1D\x6B\x4A\x12\x28\x30\x31\x29\x30\x39\x35\x30\x36\x30\x30\x30\x31\x33\x34\x33\x35\x32",
-    ),
     (
         "GS k",
         b"\x1D\x6B\x4B\x0D\x30\x39\x35\x30\x36\x30\x30\x30\x31\x33\x34\x33\x35",
@@ -212,10 +198,9 @@ fn each_of_gs_is_found(rt: HostRuntime) {
 
 #[test]
 fn others_follow(rt: HostRuntime) {
-    // A buzzer, a picture in columns and tab stops, each with another command after it.
+    // A buzzer and a picture in columns, each with another command after it.
     is_whole(&rt, "ESC B", b"\x1BB\x02\x04\x1BB", 4);
     is_whole(&rt, "ESC *", b"\x1B*\x21\x02\x00abcdef\n", 11);
-    is_whole(&rt, "ESC D", b"\x1BD\x08\x10\x00\x00", 5);
 }
 
 // These begin no command that is passed over.

@@ -1,5 +1,5 @@
 -- Places down the paper are sums of what the items before them take.
-use Rattle.std.proofs.Common.{◌≡◌, ℕ, zero, suc, ◌+◌, ◌-◌, ◌*◌, ◌^◌, ◌<◌, ◌≤◌, List, [], ◌∷◌, ◌++◌, length, refl, sym, ◌∙◌, ap, arith, None, Some, false, cond}
+use Rattle.std.proofs.Common.{◌≡◌, ℕ, zero, suc, ◌+◌, ◌-◌, ◌*◌, ◌^◌, ◌<◌, ◌≤◌, List, [], ◌∷◌, ◌++◌, length, refl, sym, ◌∙◌, ap, arith, None, Some, Bool, true, false, cond, if◌then◌else◌}
 use Rattle.std.specs.Prelude.{◌==◌, min, max, Option}
 use Rattle.std.specs.List.{AllByRecursion}
 use Rattle.std.proofs.lemmas.Bool.Decides.{nat_tests}
@@ -10,6 +10,7 @@ use Rattle.escpos_command.specs.declared.parameter.choices.HriPosition.{HriPosit
 use Rattle.escpos_command.specs.declared.parameter.choices.HriPosition.TheVariants as place
 use Rattle.escpos_command.specs.declared.parameter.choices.Scale.{Scale}
 use Rattle.escpos_command.specs.declared.parameter.choices.Scale.TheVariants as scale
+use Rattle.escpos_paper.specs.Dots.{face_dots}
 use Rattle.escpos_paper.specs.declared.cell.Cell.{Cell}
 use Rattle.escpos_paper.specs.declared.item.Item.{Item}
 use Rattle.escpos_paper.specs.declared.item.Item.TheVariants.{Row, Feed, FeedUnits, Bars, Raster, Qr, Cut}
@@ -72,14 +73,17 @@ height_is_sum line_dots items fits =
 
 -- ## Few items
 
-face_small : (face : FontFace) (height : ℕ) → height < 256 → face_height face * height ≤ 6120
-face_small A height small = omega arith
-face_small B height small = omega arith
+face_small : (turned : Bool) (face : FontFace) (height width : ℕ) → height < 256 → width < 256
+    → (if turned then face_dots face * width else face_height face * height) ≤ 6120
+face_small true A height width low narrow = omega arith
+face_small true B height width low narrow = omega arith
+face_small false A height width low narrow = omega arith
+face_small false B height width low narrow = omega arith
 
-tallest_small : (cells : List Cell) → AllByRecursion (λ (x : Cell). x.style.height < 256) cells → tallest cells ≤ 6120
+tallest_small : (cells : List Cell) → AllByRecursion (λ (x : Cell). (x.style.height < 256) × (x.style.width < 256)) cells → tallest cells ≤ 6120
 tallest_small [] small = omega arith
 tallest_small (x ∷ xs) small =
-    let first : cell_height x ≤ 6120 = face_small x.style.font x.style.height small.0 in
+    let first : cell_height x ≤ 6120 = face_small x.style.turned x.style.font x.style.height x.style.width small.0.0 small.0.1 in
     let others = tallest_small xs small.1 in
     omega arith
 

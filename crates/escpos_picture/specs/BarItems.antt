@@ -1,18 +1,17 @@
 -- A barcode in the document: its bars between its lines of text, or a box where it isn't scannable.
 use Rattle.std.specs.Prelude.{ℕ, ◌+◌, ◌*◌, min, Bool, true, false, not, List, [], ◌∷◌, ◌++◌, length, replicate, sum, Option, None, Some, codes, decimal, if◌then◌else◌}
 use Rattle.escpos_command.specs.declared.bars.Symbology.{Symbology}
-use Rattle.escpos_command.specs.declared.parameter.choices.Alignment.{Alignment}
-use Rattle.escpos_command.specs.declared.parameter.choices.Alignment.TheVariants.{Left}
+use Rattle.escpos_paper.specs.declared.style.Placing.{Placing}
 use Rattle.escpos_command.specs.declared.parameter.choices.FontFace.{FontFace}
 use Rattle.escpos_command.specs.declared.parameter.choices.FontFace.TheVariants.{A, B}
 use Rattle.escpos_command.specs.declared.parameter.choices.HriPosition.{HriPosition}
 use Rattle.escpos_command.specs.declared.parameter.choices.HriPosition.TheVariants as place
 use Rattle.escpos_paper.specs.declared.style.BarStyle.{BarStyle}
-use Rattle.escpos_paper.specs.Cells.{face_dots}
+use Rattle.escpos_paper.specs.Dots.{face_dots}
 use Rattle.escpos_barcode.specs.Drawn.{drawn, with_added}
 use Rattle.escpos_barcode.specs.Shown.{shown}
 use Rattle.escpos_picture.specs.Numbers.{quarters}
-use Rattle.escpos_picture.specs.Places.{face_height, indent, moved}
+use Rattle.escpos_picture.specs.Places.{face_height, indent, moved, whole_line}
 use Rattle.escpos_picture.specs.Rows.{characters_text}
 use Rattle.escpos_picture.specs.Spans.{Span, span, line_text}
 
@@ -74,16 +73,16 @@ bars_frame style width =
     codes "<svg y=\"" ++ decimal (bars_top style) ++ codes "\" width=\"" ++ decimal width ++ codes "\" height=\"" ++ decimal style.height
     ++ codes "\" viewBox=\"0 0 " ++ decimal width ++ codes " 1\" preserveAspectRatio=\"none\">\n"
 
-unfoldable pub bars_group : ℕ → ℕ → Alignment → ℕ → List ℕ
+unfoldable pub bars_group : ℕ → ℕ → Placing → ℕ → List ℕ
 bars_group line_dots down align width = codes "<g class=\"bars\" transform=\"translate(" ++ moved (indent line_dots align width) down ++ codes ")\">\n"
 
-abbrev pub bars_start : ℕ → ℕ → Alignment → BarStyle → ℕ → List ℕ → List ℕ
+abbrev pub bars_start : ℕ → ℕ → Placing → BarStyle → ℕ → List ℕ → List ℕ
 bars_start line_dots down align style width text = bars_group line_dots down align width ++ label_above style width text ++ bars_frame style width
 
 abbrev pub bars_end : BarStyle → ℕ → List ℕ → List ℕ
 bars_end style width text = codes "</svg>\n" ++ label_below style width text ++ codes "</g>\n"
 
-abbrev pub scannable : ℕ → ℕ → Alignment → BarStyle → List ℕ → List ℕ → List ℕ
+abbrev pub scannable : ℕ → ℕ → Placing → BarStyle → List ℕ → List ℕ → List ℕ
 scannable line_dots down align style text widths =
     bars_start line_dots down align style (sum widths) text ++ line_text 0 (bar_spans true widths) ++ bars_end style (sum widths) text
 
@@ -103,16 +102,16 @@ box_text line_dots top height count =
 
 abbrev pub box : ℕ → ℕ → BarStyle → List ℕ → List ℕ
 box line_dots down style content =
-    bars_group line_dots down Left line_dots ++ box_frame line_dots (bars_top style) style.height ++ box_text line_dots (bars_top style) style.height (length content)
+    bars_group line_dots down whole_line line_dots ++ box_frame line_dots (bars_top style) style.height ++ box_text line_dots (bars_top style) style.height (length content)
     ++ characters_text 0 0 content ++ codes "</text></svg>\n</g>\n"
 
 -- ## Both
 
-abbrev pub bars_or_box : ℕ → ℕ → Alignment → BarStyle → List ℕ → List ℕ → Option (List ℕ) → List ℕ
+abbrev pub bars_or_box : ℕ → ℕ → Placing → BarStyle → List ℕ → List ℕ → Option (List ℕ) → List ℕ
 bars_or_box line_dots down align style text content (Some widths) = scannable line_dots down align style text widths
 bars_or_box line_dots down align style text content None = box line_dots down style content
 
-abbrev pub bars_drawing : ℕ → ℕ → Alignment → Symbology → BarStyle → List ℕ → Option ℕ → List ℕ
+abbrev pub bars_drawing : ℕ → ℕ → Placing → Symbology → BarStyle → List ℕ → Option ℕ → List ℕ
 bars_drawing line_dots down align symbology style content added =
     bars_or_box line_dots down align style (shown symbology (with_added content added)) (with_added content added)
     (drawn line_dots symbology style.module_width (with_added content added))

@@ -26,7 +26,7 @@ bars_bottom style = if stands_below style.place then face_height style.hri_font 
 -- The sizes of an item are numbers that its fields can hold: two bytes for the rows of a raster, one byte for all others. No
 -- QR code is higher than the line is wide, or than the box of one that doesn't fit.
 abbrev pub HasSizes : Item → Type 0
-HasSizes (Row align upside_down cells) = AllByRecursion (λ (x : Cell). x.style.height < 256) cells
+HasSizes (Row align upside_down cells) = AllByRecursion (λ (x : Cell). (x.style.height < 256) × (x.style.width < 256)) cells
 HasSizes (Feed n None) = n < 256
 HasSizes (Feed n (Some units)) = (n < 256) × (units < 256)
 HasSizes (FeedUnits n) = n < 256

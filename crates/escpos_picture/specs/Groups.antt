@@ -1,14 +1,14 @@
 -- Each item as a group of the document, on lines of so many dots, whose class is its kind, moved to its place: across by the margin and by what is left
 -- free of the line, down by the margin and by what the items above take.
-use Rattle.std.specs.Prelude.{ℕ, ◌+◌, ◌-◌, ◌*◌, ◌/◌, max, Bool, true, false, List, [], ◌∷◌, ◌++◌, Option, None, Some, codes, decimal, if◌then◌else◌}
-use Rattle.escpos_command.specs.declared.parameter.choices.Alignment.{Alignment}
+use Rattle.std.specs.Prelude.{ℕ, ◌+◌, ◌*◌, ◌/◌, max, Bool, true, false, List, [], ◌∷◌, ◌++◌, Option, None, Some, codes, decimal, if◌then◌else◌}
+use Rattle.escpos_paper.specs.declared.style.Placing.{Placing}
 use Rattle.escpos_command.specs.declared.parameter.choices.Scale.{Scale}
 use Rattle.escpos_paper.specs.declared.cell.Cell.{Cell}
 use Rattle.escpos_paper.specs.declared.item.Item.{Item}
 use Rattle.escpos_paper.specs.declared.item.Item.TheVariants.{Row, Feed, FeedUnits, Bars, Raster, Qr, Cut}
-use Rattle.escpos_paper.specs.Cells.{dots}
+use Rattle.escpos_paper.specs.Cells.{reach_of}
 use Rattle.escpos_picture.specs.Numbers.{quarters}
-use Rattle.escpos_picture.specs.Places.{Place, tallest, indent, across, downwards, place_after, moved}
+use Rattle.escpos_picture.specs.Places.{Place, tallest, indent, turned_end, across, downwards, place_after, moved}
 use Rattle.escpos_picture.specs.Rows.{runs, runs_drawing}
 use Rattle.escpos_picture.specs.Rasters.{rows_of, rows_text}
 use Rattle.escpos_picture.specs.BarItems.{bars_drawing}
@@ -16,22 +16,22 @@ use Rattle.escpos_picture.specs.QrItems.{qr_drawing}
 use Rattle.escpos_picture.specs.declared.pen.TheConstants.{MARGIN}
 
 -- A row. Its place is the left end of its base line, three quarters of its height down. A row that is upside down is turned with
--- its line, as a printer does: its place is the end of its base line that is then the right one, a quarter of its height down.
+-- its printing area, as a printer does: its place is the end of its base line that is then the right one, a quarter of its height down.
 abbrev pub base_line : Bool → ℕ → ℕ
 base_line upside_down height = if upside_down then height else 3 * height
 
-abbrev pub row_start : ℕ → Bool → ℕ → ℕ
-row_start line_dots upside_down free = if upside_down then line_dots - free else free
+abbrev pub row_start : ℕ → Placing → Bool → ℕ → ℕ
+row_start line_dots p upside_down width = if upside_down then turned_end line_dots p width else indent line_dots p width
 
 abbrev pub row_turn : Bool → List ℕ
 row_turn upside_down = if upside_down then codes ") rotate(180)\">" else codes ")\">"
 
-abbrev pub row_tag : ℕ → ℕ → Alignment → Bool → List Cell → List ℕ
+abbrev pub row_tag : ℕ → ℕ → Placing → Bool → List Cell → List ℕ
 row_tag line_dots down align upside_down cells =
-    codes "<g class=\"row\" transform=\"translate(" ++ moved (row_start line_dots upside_down (indent line_dots align (dots cells))) (down + base_line upside_down (tallest cells))
+    codes "<g class=\"row\" transform=\"translate(" ++ moved (row_start line_dots align upside_down (reach_of cells)) (down + base_line upside_down (tallest cells))
     ++ row_turn upside_down
 
-abbrev pub row_drawing : ℕ → ℕ → Alignment → Bool → List Cell → List ℕ
+abbrev pub row_drawing : ℕ → ℕ → Placing → Bool → List Cell → List ℕ
 row_drawing line_dots down align upside_down cells = row_tag line_dots down align upside_down cells ++ runs_drawing 0 (runs cells) ++ codes "</g>\n"
 
 abbrev pub feed_drawing : List ℕ
@@ -45,11 +45,11 @@ units_drawing = codes "<g class=\"units\"/>\n"
 unfoldable pub scale_text : Scale → List ℕ
 scale_text scale = codes ")\"><g transform=\"scale(" ++ decimal (across scale) ++ codes "," ++ decimal (downwards scale) ++ codes ")\">\n"
 
-unfoldable pub raster_start : ℕ → ℕ → Alignment → Scale → ℕ → List ℕ
+unfoldable pub raster_start : ℕ → ℕ → Placing → Scale → ℕ → List ℕ
 raster_start line_dots down align scale x =
     codes "<g class=\"raster\" transform=\"translate(" ++ moved (indent line_dots align (8 * x * across scale)) down ++ scale_text scale
 
-abbrev pub raster_drawing : ℕ → ℕ → Alignment → Scale → ℕ → ℕ → List ℕ → List ℕ
+abbrev pub raster_drawing : ℕ → ℕ → Placing → Scale → ℕ → ℕ → List ℕ → List ℕ
 raster_drawing line_dots down align scale x y dots = raster_start line_dots down align scale x ++ rows_text 0 (rows_of x y dots) ++ codes "</g></g>\n"
 
 -- A cut: a pair of scissors at the left edge of the paper, and a dashed line across it, 12 dots under the feed that comes before.

@@ -9,6 +9,9 @@ use Rattle.escpos_command.specs.declared.parameter.choices.HriPosition.TheVarian
 use Rattle.escpos_command.specs.declared.parameter.choices.Scale.{Scale}
 use Rattle.escpos_command.specs.declared.parameter.choices.Scale.TheVariants as scale
 use Rattle.escpos_paper.specs.declared.cell.Cell.{Cell}
+use Rattle.escpos_paper.specs.declared.style.Placing.{Placing}
+use Rattle.escpos_paper.specs.declared.style.Style.{Style}
+use Rattle.escpos_paper.specs.Dots.{area_dots, face_dots, margin_dots}
 use Rattle.escpos_paper.specs.declared.item.Item.{Item}
 use Rattle.escpos_paper.specs.declared.item.Item.TheVariants.{Row, Feed, FeedUnits, Bars, Raster, Qr, Cut}
 use Rattle.escpos_picture.specs.declared.pen.TheConstants.{DEEPEST, MARGIN}
@@ -20,8 +23,12 @@ abbrev pub face_height : FontFace → ℕ
 face_height A = 24
 face_height B = 17
 
+-- A character that is turned is as high as it is wide otherwise. (Reference: ESC V.)
+abbrev pub style_height : Style → ℕ
+style_height s = if s.turned then face_dots s.font * s.width else face_height s.font * s.height
+
 abbrev pub cell_height : Cell → ℕ
-cell_height x = face_height x.style.font * x.style.height
+cell_height x = style_height x.style
 
 -- The height of a row: that of its tallest cell.
 abbrev pub tallest : List Cell → ℕ
@@ -92,11 +99,25 @@ abbrev pub place_after_all : Place → List Item → Place
 place_after_all place [] = place
 place_after_all place (item ∷ items) = place_after_all (place_after place item) items
 
--- How many dots of a line of so many dots are left free to the left of something this wide.
-abbrev pub indent : ℕ → Alignment → ℕ → ℕ
-indent line_dots Left width = 0
-indent line_dots Center width = (line_dots - width) / 2
-indent line_dots Right width = line_dots - width
+-- How many of these free dots stand to the left of something.
+abbrev pub free_left : Alignment → ℕ → ℕ
+free_left Left free = 0
+free_left Center free = free / 2
+free_left Right free = free
+
+-- How many dots of a line of so many dots are left free to the left of something this wide: the margin, and what its side of the printing area
+-- has; what is wider than that begins so far to the left that it stays on the line.
+abbrev pub indent : ℕ → Placing → ℕ → ℕ
+indent line_dots p width = min (margin_dots line_dots p + free_left p.side (area_dots line_dots p - width)) (line_dots - width)
+
+-- Where something this wide ends that is turned with the printing area; what is wider than that ends so far to the right that it stays on
+-- the line.
+abbrev pub turned_end : ℕ → Placing → ℕ → ℕ
+turned_end line_dots p width = min (max (margin_dots line_dots p + (area_dots line_dots p - free_left p.side (area_dots line_dots p - width))) width) line_dots
+
+-- All of the line, at its left end.
+abbrev pub whole_line : Placing
+whole_line = record { side = Left; margin = 0; width = None }
 
 -- The place of a group: this many dots from the left end of the line, and this many quarters of a dot under the first item.
 abbrev pub moved : ℕ → ℕ → List ℕ

@@ -15,19 +15,19 @@ use crate::label::{
     LABEL_BYTES, append_characters, append_label_above, append_label_below, bars_top,
 };
 use crate::numbers::{append_between, append_place};
-use crate::pen::{DEEPEST, indent};
+use crate::pen::{DEEPEST, indent, whole_line};
 use crate::span::{LINE_START_BYTES, SPAN_BYTES, append_line_start, append_span};
 use escpos_barcode::laws::bars_fit;
 use escpos_barcode::{interpretation, runs};
-use escpos_command::{Alignment, LineWidth, Symbology};
+use escpos_command::{LineWidth, Symbology};
 use escpos_io::{ByteOut, Device, GATHERED_BYTES, Gather, append_number};
-use escpos_paper::{BarStyle, CONTENT_BYTES};
+use escpos_paper::{BarStyle, CONTENT_BYTES, Placing};
 
 /// A barcode but for its content: where it stands and how it is printed.
 #[derive(Clone, Copy, Debug, PartialEq, Eq)]
 pub struct Symbol {
     /// Where it stands in the line.
-    pub align: Alignment,
+    pub align: Placing,
     pub symbology: Symbology,
     pub style: BarStyle,
     /// The check digit that is added to the content.
@@ -136,7 +136,7 @@ fn append_start(
 
 // Appends the tag of the group.
 #[tactic(auto, unfolding(crate::specs::BarItems::bars_group))]
-fn append_group(gather: &mut Gather, width: LineWidth, align: Alignment, dots: usize, down: usize)
+fn append_group(gather: &mut Gather, width: LineWidth, align: Placing, dots: usize, down: usize)
     requires small { down ≤ DEEPEST }
     requires room { length gather.old.kept + 96 ≤ GATHERED_BYTES }
     ensures kept { gather.new.kept ≡ gather.old.kept ++ bars_group width down align dots }
@@ -234,7 +234,7 @@ fn append_box(
     let top = bars_top(style);
     let height = usize::from(style.height);
     let line_dots = usize::from(width.dots());
-    append_group(gather, width, Alignment::Left, line_dots, down);
+    append_group(gather, width, whole_line(), line_dots, down);
     append_box_frame(gather, width, top, height);
     append_box_text(gather, width, top, height, shown_len(content, added));
     append_characters(gather, content);

@@ -1,10 +1,11 @@
 //! Proof only: the laws of pictures. The contract of each function is the law; when run, it does nothing. A law is proved with
 //! this crate, and another crate cites it by calling the function.
 
-ghost use Rattle.std.specs.Prelude.{◌≡◌, ◌≤◌, ◌+◌, ◌-◌, ◌*◌, ◌^◌, ℕ, Bool, Option, IsTrue, not, true, List, [], ◌∷◌, ◌++◌, length};
+ghost use Rattle.std.specs.Prelude.{◌≡◌, ◌≤◌, ◌+◌, ◌-◌, ◌*◌, ◌^◌, ℕ, Bool, Option, IsTrue, not, true, List, [], ◌∷◌, ◌++◌, length, false};
 ghost use Rattle.std.specs.List.{AllByRecursion};
 ghost use Rattle.escpos_command.specs.declared.bars.Symbology.{Symbology};
-ghost use Rattle.escpos_command.specs.declared.parameter.choices.Alignment.{Alignment};
+ghost use Rattle.escpos_paper.specs.declared.style.Placing.{Placing};
+ghost use Rattle.escpos_paper.specs.Dots.{area_dots, margin_dots};
 ghost use Rattle.escpos_command.specs.declared.parameter.choices.Correction.{Correction};
 ghost use Rattle.escpos_command.specs.declared.parameter.choices.Scale.{Scale};
 ghost use Rattle.escpos_paper.specs.declared.cell.Cell.{Cell};
@@ -53,27 +54,30 @@ pub fn items_stand_in_order()
 /// a row is three quarters of its height down: each cell reaches above it by three quarters of its own height and below it by a
 /// quarter, where its underline, at most 2 dots thick, ends too. In a row that is upside down the base line is a quarter down, each
 /// cell reaches above it by a quarter and below it by three, and the row goes from its start to the left, as far from the
-/// right end of the line as it otherwise is from the left one. The lines of a raster, the bars of a barcode with its lines of text,
+/// right end of the printing area as it otherwise is from the left one, where it is no wider than that. The lines of a raster, the bars of a barcode with its lines of text,
 /// the box of a QR code and a cut fill their depth exactly. And what is no wider than the line ends within it.
 pub fn items_stay_within()
-    ensures rows_within { (line_dots : ℕ) (above : ℕ) (align : Alignment) (upside_down : Bool) (cells : List Cell) → AllByRecursion (λ (x : Cell).
+    ensures rows_within { (line_dots : ℕ) (above : ℕ) (align : Placing) (upside_down : Bool) (cells : List Cell) → AllByRecursion (λ (x : Cell).
         (base_line upside_down (cell_height x) ≤ base_line upside_down (tallest cells))
         × (base_line upside_down (tallest cells) + base_line (not upside_down) (cell_height x) ≤ depth line_dots above (Row align upside_down cells))) cells }
-    ensures underlines_within { (x : Cell) → 1 ≤ x.style.height → x.style.underline ≤ 2 →
+    ensures underlines_within { (x : Cell) → x.style.turned ≡ false → 1 ≤ x.style.height → x.style.underline ≤ 2 →
         cell_height x - 4 * x.style.underline + 4 * x.style.underline ≡ cell_height x }
-    ensures rasters_within { (line_dots : ℕ) (above : ℕ) (align : Alignment) (scale : Scale) (x y : ℕ) (dots : List ℕ) →
+    ensures rasters_within { (line_dots : ℕ) (above : ℕ) (align : Placing) (scale : Scale) (x y : ℕ) (dots : List ℕ) →
         4 * (downwards scale * length (rows_of x y dots)) ≡ depth line_dots above (Raster align scale x y dots) }
-    ensures bars_within { (line_dots : ℕ) (above : ℕ) (align : Alignment) (symbology : Symbology) (style : BarStyle) (content : List ℕ) (added : Option ℕ) →
+    ensures bars_within { (line_dots : ℕ) (above : ℕ) (align : Placing) (symbology : Symbology) (style : BarStyle) (content : List ℕ) (added : Option ℕ) →
         4 * (bars_top style + style.height + bars_bottom style) ≡
         depth line_dots above (Bars align symbology style.height style.module_width style.place style.hri_font content added) }
     ensures labels_within { (style : BarStyle) → (IsTrue (stands_above style.place) → bars_top style ≡ face_height style.hri_font)
         × (IsTrue (stands_below style.place) → bars_bottom style ≡ face_height style.hri_font) }
-    ensures codes_within { (line_dots : ℕ) (above : ℕ) (align : Alignment) (model size : ℕ) (level : Correction) (content : List ℕ) →
+    ensures codes_within { (line_dots : ℕ) (above : ℕ) (align : Placing) (model size : ℕ) (level : Correction) (content : List ℕ) →
         4 * qr_height line_dots size level content ≡ depth line_dots above (Qr align model size level content) }
     ensures cuts_within { (line_dots : ℕ) (above : ℕ) (partial : Bool) (feed : Option ℕ) → cut_place feed + 4 * 24 ≡ depth line_dots above (Cut partial feed) }
-    ensures across { (line_dots : ℕ) (align : Alignment) (width : ℕ) → width ≤ line_dots → indent line_dots align width + width ≤ line_dots }
-    ensures turned { (line_dots : ℕ) (align : Alignment) (width : ℕ) → width ≤ line_dots →
-        (width ≤ row_start line_dots true (indent line_dots align width)) × (row_start line_dots true (indent line_dots align width) + indent line_dots align width ≡ line_dots) }
+    ensures across { (line_dots : ℕ) (align : Placing) (width : ℕ) → width ≤ line_dots → indent line_dots align width + width ≤ line_dots }
+    ensures turned { (line_dots : ℕ) (align : Placing) (width : ℕ) → width ≤ area_dots line_dots align →
+        (width ≤ row_start line_dots align true width)
+        × (row_start line_dots align true width + row_start line_dots align false width ≡ 2 * margin_dots line_dots align + area_dots line_dots align) }
+    ensures turned_on_line { (line_dots : ℕ) (align : Placing) (width : ℕ) → width ≤ line_dots →
+        (width ≤ row_start line_dots align true width) × (row_start line_dots align true width ≤ line_dots) }
 {}
 
 /// Dots: what paths draw is exactly the black dots, each once, from left to right and row by row: the dots that are 1 of the rows
@@ -96,12 +100,12 @@ pub fn text_is_escaped()
 /// Place: an item is drawn the same wherever it stands. All that tells how far down the paper that is is one number in its group: the
 /// margin, the place of the item, and the way from there to the base line of a row or the end of the feed of a cut.
 pub fn items_move()
-    ensures rows { (line_dots : ℕ) (align : Alignment) (upside_down : Bool) (cells : List Cell) →
+    ensures rows { (line_dots : ℕ) (align : Placing) (upside_down : Bool) (cells : List Cell) →
         MovesDown (base_line upside_down (tallest cells)) (λ down. drawing_at line_dots down (Row align upside_down cells)) }
-    ensures bars { (line_dots : ℕ) (align : Alignment) (symbology : Symbology) (style : BarStyle) (content : List ℕ) (added : Option ℕ) →
+    ensures bars { (line_dots : ℕ) (align : Placing) (symbology : Symbology) (style : BarStyle) (content : List ℕ) (added : Option ℕ) →
         MovesDown 0 (λ down. drawing_at line_dots down (Bars align symbology style.height style.module_width style.place style.hri_font content added)) }
-    ensures rasters { (line_dots : ℕ) (align : Alignment) (scale : Scale) (x y : ℕ) (dots : List ℕ) → MovesDown 0 (λ down. drawing_at line_dots down (Raster align scale x y dots)) }
-    ensures qr_codes { (line_dots : ℕ) (align : Alignment) (model size : ℕ) (level : Correction) (content : List ℕ) →
+    ensures rasters { (line_dots : ℕ) (align : Placing) (scale : Scale) (x y : ℕ) (dots : List ℕ) → MovesDown 0 (λ down. drawing_at line_dots down (Raster align scale x y dots)) }
+    ensures qr_codes { (line_dots : ℕ) (align : Placing) (model size : ℕ) (level : Correction) (content : List ℕ) →
         MovesDown 0 (λ down. drawing_at line_dots down (Qr align model size level content)) }
     ensures cuts { (line_dots : ℕ) (partial : Bool) (feed : Option ℕ) → MovesDown (cut_place feed) (λ down. drawing_at line_dots down (Cut partial feed)) }
 {}

@@ -2,11 +2,12 @@
 
 ghost use Rattle.std.specs.Prelude.{◌≡◌, ◌*◌, ◌≤◌};
 ghost use Rattle.escpos_command.specs.declared.line_width.TheConstants.{MOST_LINE_DOTS};
-ghost use Rattle.escpos_picture.specs.Places.{Place, top, place_after, place_after_all, depth, row_above, face_height, cell_height, tallest, text_lines, across, downwards, line_depth, feed_depth, indent};
+ghost use Rattle.escpos_picture.specs.Places.{Place, top, place_after, place_after_all, depth, row_above, face_height, cell_height, style_height, tallest, text_lines, across, downwards, line_depth, feed_depth, free_left, indent, turned_end, whole_line};
+ghost use Rattle.escpos_paper.specs.Dots.{margin_dots};
 
 use crate::qr::qr_height;
 use escpos_command::{Alignment, FontFace, HriPosition, LineWidth, Scale};
-use escpos_paper::{Cell, Item};
+use escpos_paper::{Cell, Item, Placing, Style, face_dots};
 use std::marker::Model;
 
 /// As far down as places are counted, in quarters of a dot: no paper comes near.
@@ -186,7 +187,19 @@ fn cell_height(cell: &Cell) -> usize
     ensures value { result ≡ cell_height cell.now }
     ensures small { result ≤ 6120 }
 {
-    face_height(cell.style.font) * usize::from(cell.style.height)
+    style_height(&cell.style)
+}
+
+/// How high a character of a style is, in dots.
+pub fn style_height(style: &Style) -> usize
+    ensures value { result ≡ style_height style.now }
+    ensures small { result ≤ 6120 }
+{
+    if style.turned {
+        face_dots(style.font) * usize::from(style.width)
+    } else {
+        face_height(style.font) * usize::from(style.height)
+    }
 }
 
 /// How many lines of text stand beside a barcode.
@@ -224,15 +237,56 @@ pub fn downwards(scale: Scale) -> usize
 }
 
 /// How many dots of a line are left free to the left of something this many dots wide.
-pub fn indent(width: LineWidth, align: Alignment, dots: usize) -> usize
-    ensures value { result ≡ indent width align dots }
+pub fn indent(width: LineWidth, placing: Placing, dots: usize) -> usize
+    ensures value { result ≡ indent width placing dots }
     ensures within { result ≤ width }
     ensures small { result ≤ MOST_LINE_DOTS }
 {
-    let free = usize::from(width.dots()).saturating_sub(dots);
-    match align {
+    let line = usize::from(width.dots());
+    let free = free_left(placing.side, placing.area_dots(width).saturating_sub(dots));
+    (margin(width, placing) + free).min(line.saturating_sub(dots))
+}
+
+/// Where something this many dots wide ends that is turned with the printing area.
+pub fn turned_end(width: LineWidth, placing: Placing, dots: usize) -> usize
+    ensures value { result ≡ turned_end width placing dots }
+    ensures small { result ≤ MOST_LINE_DOTS }
+{
+    let line = usize::from(width.dots());
+    let area = placing.area_dots(width);
+    let free = free_left(placing.side, area.saturating_sub(dots));
+    (margin(width, placing) + area.saturating_sub(free))
+        .max(dots)
+        .min(line)
+}
+
+// The margin of a line.
+fn margin(width: LineWidth, placing: Placing) -> usize
+    ensures value { result ≡ margin_dots width placing }
+    ensures small { result ≤ MOST_LINE_DOTS }
+{
+    usize::from(placing.margin.min(width.dots()))
+}
+
+// How many of these free dots stand to the left.
+fn free_left(side: Alignment, free: usize) -> usize
+    ensures value { result ≡ free_left side free }
+    ensures within { result ≤ free }
+{
+    match side {
         Alignment::Left => 0,
         Alignment::Center => free / 2,
         Alignment::Right => free,
+    }
+}
+
+/// All of the line, at its left end.
+pub fn whole_line() -> Placing
+    ensures { result ≡ whole_line }
+{
+    Placing {
+        side: Alignment::Left,
+        margin: 0,
+        width: None,
     }
 }

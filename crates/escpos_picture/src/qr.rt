@@ -14,10 +14,11 @@ ghost use Rattle.escpos_picture.specs.QrSides.{qr_side, qr_height};
 use crate::bars::{append_box_frame, append_box_text};
 use crate::characters::{CHARACTER_BYTES, append_byte};
 use crate::numbers::{append_between, append_place};
-use crate::pen::{DEEPEST, indent};
+use crate::pen::{DEEPEST, indent, whole_line};
 use escpos_barcode::qr_modules;
-use escpos_command::{Alignment, Correction, LineWidth};
+use escpos_command::{Correction, LineWidth};
 use escpos_io::{ByteOut, Device, GATHERED_BYTES, Gather, append_number};
+use escpos_paper::Placing;
 
 /// The height of the box of a QR code that a printer would not print, in dots.
 pub const BOX_HEIGHT: usize = 48;
@@ -54,7 +55,7 @@ pub fn qr_height(width: LineWidth, size: u8, level: Correction, content: &[u8]) 
 pub fn put_qr<W: ByteOut>(
     gather: &mut Gather,
     width: LineWidth,
-    align: Alignment,
+    align: Placing,
     size: u8,
     level: Correction,
     content: &[u8],
@@ -82,7 +83,7 @@ const _: () = prove!(START_BYTES == 768);
 fn append_start(
     gather: &mut Gather,
     width: LineWidth,
-    align: Alignment,
+    align: Placing,
     side: Option<usize>,
     count: usize,
     down: usize,
@@ -102,7 +103,7 @@ fn append_start(
         }
         None => {
             let line_dots = usize::from(width.dots());
-            append_group(gather, width, Alignment::Left, line_dots, down);
+            append_group(gather, width, whole_line(), line_dots, down);
             append_box_frame(gather, width, 0, BOX_HEIGHT);
             append_box_text(gather, width, 0, BOX_HEIGHT, count);
         }
@@ -111,7 +112,7 @@ fn append_start(
 
 // Appends the tag of the group.
 #[tactic(auto, unfolding(crate::specs::QrItems::qr_group))]
-fn append_group(gather: &mut Gather, width: LineWidth, align: Alignment, side: usize, down: usize)
+fn append_group(gather: &mut Gather, width: LineWidth, align: Placing, side: usize, down: usize)
     requires small { down ≤ DEEPEST }
     requires room { length gather.old.kept + 96 ≤ GATHERED_BYTES }
     ensures kept { gather.new.kept ≡ gather.old.kept ++ qr_group width down align side }

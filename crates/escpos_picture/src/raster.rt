@@ -16,9 +16,9 @@ use crate::pen::{DEEPEST, across, downwards, indent};
 use crate::short_row::STEP_BYTES;
 use crate::span::{LINE_START_BYTES, append_line_start, append_span};
 use crate::span_buffer::{SPAN_BUFFER_BYTES, SpanBuffer};
-use escpos_command::{Alignment, LineWidth, Scale};
+use escpos_command::{LineWidth, Scale};
 use escpos_io::{ByteOut, Device, GATHERED_BYTES, Gather};
-use escpos_paper::{DOT_BYTES, Dots};
+use escpos_paper::{DOT_BYTES, Dots, Placing};
 
 /// The most bytes that come before the rows of a raster.
 const START_BYTES: usize = 256;
@@ -35,7 +35,7 @@ const _: () = prove!(BAND_ROWS == 64);
 #[derive(Clone, Copy, Debug, PartialEq, Eq)]
 pub struct Frame {
     /// Where it stands in the line.
-    pub align: Alignment,
+    pub align: Placing,
     /// How its dots are scaled.
     pub scale: Scale,
     /// The bytes in each row.

@@ -1,19 +1,20 @@
 //! A row: its cells, neighbours of one style as one text.
 
-ghost use Rattle.std.specs.Prelude.{◌≡◌, ◌+◌, ◌*◌, ◌<◌, ◌≤◌, ◌∷◌, ◌++◌, length, take, drop};
+ghost use Rattle.std.specs.Prelude.{◌≡◌, ◌+◌, ◌*◌, ◌<◌, ◌≤◌, ◌∷◌, ◌++◌, length, max, take, drop};
 ghost use Rattle.escpos_command.specs.declared.line_width.TheConstants.{MOST_LINE_DOTS};
 ghost use Rattle.escpos_io.specs.Giving.{IsGiven};
 ghost use Rattle.escpos_io.specs.Putting.{passage};
-ghost use Rattle.escpos_paper.specs.Cells.{dots, face_dots};
-ghost use Rattle.escpos_picture.specs.Rows.{run, runs, bytes_of, same_count, is_plain_size, scaled_place, text_place, text_class, characters_text, underline_text, text_start, run_tag, run_text, ground_text, run_marks, run_drawing, runs_drawing};
+ghost use Rattle.std.specs.Option.{unwrap_or};
+ghost use Rattle.escpos_paper.specs.Cells.{reach_of};
+ghost use Rattle.escpos_picture.specs.Rows.{run, runs, bytes_of, joins, same_count, turned_place, is_plain_size, scaled_place, text_place, text_class, characters_text, underline_text, text_start, run_tag, run_text, ground_text, run_marks, run_drawing, runs_drawing};
 ghost use Rattle.escpos_picture.specs.Groups.{row_drawing, row_tag, base_line, row_start, row_turn};
 
 use crate::characters::append_byte;
 use crate::numbers::{append_between, append_place, append_quarters};
-use crate::pen::{DEEPEST, face_height, indent, tallest};
-use escpos_command::{Alignment, FontFace, LineWidth};
+use crate::pen::{DEEPEST, face_height, indent, style_height, tallest, turned_end};
+use escpos_command::{FontFace, LineWidth};
 use escpos_io::{ByteOut, Device, GATHERED_BYTES, Gather, append_number, append_small_number};
-use escpos_paper::{Cell, Cells, LINE_CELLS, Style, face_dots};
+use escpos_paper::{Cell, Cells, LINE_CELLS, Placing, Style, face_dots};
 
 /// The most bytes that come before the cells of a row.
 const START_BYTES: usize = 128;
@@ -25,6 +26,11 @@ const RUN_BYTES: usize = 1024;
 
 const _: () = prove!(RUN_BYTES == 1024);
 
+/// The furthest place of a run, in dots from the left end of the row: none is as far right.
+const FURTHEST: usize = 16_777_216;
+
+const _: () = prove!(FURTHEST == 16_777_216);
+
 /// Gives the drawing of a row on a line of this width, whose upper edge is this many quarters of a dot down the paper.
 ///
 /// On `Err` the sink has failed, and took exactly the first `written` of all bytes ever given to the gather, as long as these are
@@ -32,7 +38,7 @@ const _: () = prove!(RUN_BYTES == 1024);
 pub fn put_row<W: ByteOut>(
     gather: &mut Gather,
     width: LineWidth,
-    align: Alignment,
+    align: Placing,
     upside_down: bool,
     cells: &Cells,
     down: usize,
@@ -53,7 +59,7 @@ pub fn put_row<W: ByteOut>(
 fn append_start(
     gather: &mut Gather,
     width: LineWidth,
-    align: Alignment,
+    align: Placing,
     upside_down: bool,
     cells: &[Cell],
     down: usize,
@@ -67,7 +73,7 @@ fn append_start(
     gather.extend(b"<g class=\"row\" transform=\"translate(");
     append_place(
         gather,
-        row_start(width, upside_down, indent(width, align, dots(cells))),
+        row_start(width, align, upside_down, reach(cells)),
         down + base_line(upside_down, tallest(cells)),
     );
     gather.extend(row_turn(upside_down));
@@ -82,14 +88,16 @@ fn base_line(upside_down: bool, height: usize) -> usize
     if upside_down { height } else { 3 * height }
 }
 
-// Where a row begins that leaves so many dots of its line free before it.
-fn row_start(width: LineWidth, upside_down: bool, free: usize) -> usize
-    requires { free ≤ width }
-    ensures value { result ≡ row_start width upside_down free }
+// Where a row begins that is this many dots wide.
+fn row_start(width: LineWidth, align: Placing, upside_down: bool, dots: usize) -> usize
+    ensures value { result ≡ row_start width align upside_down dots }
     ensures small { result ≤ MOST_LINE_DOTS }
 {
-    let line_dots = usize::from(width.dots());
-    if upside_down { line_dots - free } else { free }
+    if upside_down {
+        turned_end(width, align, dots)
+    } else {
+        indent(width, align, dots)
+    }
 }
 
 fn row_turn(upside_down: bool) -> &'static [u8]
@@ -103,16 +111,29 @@ fn row_turn(upside_down: bool) -> &'static [u8]
     }
 }
 
-// How wide these cells are, in dots.
-fn dots(cells: &[Cell]) -> usize
+// How far right these cells reach, in dots.
+fn reach(cells: &[Cell]) -> usize
     requires few { length cells.now ≤ LINE_CELLS }
-    ensures value { result ≡ dots cells.now }
+    ensures value { result ≡ reach_of cells.now }
 {
-    let mut sum = 0;
+    let mut end = 0;
+    let mut reach = 0;
     for cell in cells {
-        sum += cell.style.dots();
+        end = left(end, cell.moved) + cell.style.dots();
+        reach = end.max(reach);
     }
-    sum
+    reach
+}
+
+// The left edge of a cell after one that ends at this dot.
+fn left(end: usize, moved: Option<u16>) -> usize
+    ensures value { result ≡ unwrap_or moved end }
+    ensures small { result ≤ max end 65535 }
+{
+    match moved {
+        Some(dot) => usize::from(dot),
+        None => end,
+    }
 }
 
 // Gives the runs of these cells.
@@ -124,28 +145,37 @@ fn put_runs<W: ByteOut>(gather: &mut Gather, cells: &[Cell], writer: &mut W) -> 
     let mut rest = cells;
     let mut x = 0;
     while !rest.is_empty() {
-        let (style, count) = first_run(rest);
+        let (moved, style, count) = first_run(rest);
         let (run, following) = rest.split_at(count);
+        let start = left(x, moved);
         gather.room(RUN_BYTES, writer)?;
-        append_run(gather, x, &style, run);
-        x += style.dots() * count;
+        append_run(gather, start, &style, run);
+        x = start + style.dots() * count;
         rest = following;
     }
     Ok(())
 }
 
-// The style of the first run of these cells, and how many cells it has.
-fn first_run(cells: &[Cell]) -> (Style, usize)
+// Where the first run of these cells stands, if it doesn't follow the cell before it, its style, and how many cells it has.
+fn first_run(cells: &[Cell]) -> (Option<u16>, Style, usize)
     requires { 0 < length cells.now }
-    ensures run { runs cells.now ≡ run result.0 (bytes_of (take result.1 cells.now)) ∷ runs (drop result.1 cells.now) }
-    ensures some { 0 < result.1 }
-    ensures inside { result.1 ≤ length cells.now }
+    ensures run { runs cells.now ≡ (result.0, run result.1 (bytes_of (take result.2 cells.now))) ∷ runs (drop result.2 cells.now) }
+    ensures some { 0 < result.2 }
+    ensures inside { result.2 ≤ length cells.now }
 {
     let style = cells[0].style;
-    (style, 1 + same_count(&style, &cells[1..]))
+    (cells[0].moved, style, 1 + same_count(&style, &cells[1..]))
 }
 
-// How many of these cells, which follow one of a style, come before the first whose style isn't that of the cell before it.
+// Whether a cell of this style and place joins one of the style before it.
+#[inline]
+fn joins(before: &Style, style: &Style, moved: Option<u16>) -> bool
+    ensures { result ≡ joins before.now style.now moved }
+{
+    before.is_same(style) && moved.is_none() && !style.turned
+}
+
+// How many of these cells, which follow one of a style, come before the first that doesn't join the cell before it.
 fn same_count(style: &Style, cells: &[Cell]) -> usize
     ensures value { result ≡ same_count style.now cells.now }
     ensures inside { result ≤ length cells.now }
@@ -153,7 +183,7 @@ fn same_count(style: &Style, cells: &[Cell]) -> usize
     let mut before = *style;
     let mut count = 0;
     for cell in cells {
-        if !before.is_same(&cell.style) {
+        if !joins(&before, &cell.style, cell.moved) {
             return count;
         }
         before = cell.style;
@@ -166,10 +196,11 @@ fn same_count(style: &Style, cells: &[Cell]) -> usize
 #[tactic(auto, unfolding(crate::specs::Rows::run_drawing))]
 fn append_run(gather: &mut Gather, x: usize, style: &Style, cells: &[Cell])
     requires few { length cells.now ≤ LINE_CELLS }
-    requires room { length gather.old.kept + 288 + 6 * length cells.now ≤ GATHERED_BYTES }
+    requires near { x ≤ FURTHEST }
+    requires room { length gather.old.kept + 320 + 6 * length cells.now ≤ GATHERED_BYTES }
     ensures kept { gather.new.kept ≡ gather.old.kept ++ run_drawing x (run style.now (bytes_of cells.now)) }
     ensures same_count { gather.new.written ≡ gather.old.written }
-    ensures short { length gather.new.kept ≤ length gather.old.kept + 288 + 6 * length cells.now }
+    ensures short { length gather.new.kept ≤ length gather.old.kept + 320 + 6 * length cells.now }
 {
     if style.color == 0 {
         append_marks(gather, x, style, cells);
@@ -184,10 +215,11 @@ fn append_run(gather: &mut Gather, x: usize, style: &Style, cells: &[Cell])
 #[tactic(auto, unfolding(crate::specs::Rows::run_marks))]
 fn append_marks(gather: &mut Gather, x: usize, style: &Style, cells: &[Cell])
     requires few { length cells.now ≤ LINE_CELLS }
-    requires room { length gather.old.kept + 256 + 6 * length cells.now ≤ GATHERED_BYTES }
+    requires near { x ≤ FURTHEST }
+    requires room { length gather.old.kept + 288 + 6 * length cells.now ≤ GATHERED_BYTES }
     ensures kept { gather.new.kept ≡ gather.old.kept ++ run_marks x (run style.now (bytes_of cells.now)) }
     ensures same_count { gather.new.written ≡ gather.old.written }
-    ensures short { length gather.new.kept ≤ length gather.old.kept + 256 + 6 * length cells.now }
+    ensures short { length gather.new.kept ≤ length gather.old.kept + 288 + 6 * length cells.now }
 {
     if style.reverse {
         append_ground(gather, x, style, cells);
@@ -201,10 +233,11 @@ fn append_marks(gather: &mut Gather, x: usize, style: &Style, cells: &[Cell])
 // Appends the characters of cells of one style as a text.
 fn append_run_text(gather: &mut Gather, x: usize, style: &Style, cells: &[Cell])
     requires few { length cells.now ≤ LINE_CELLS }
-    requires room { length gather.old.kept + 128 + 6 * length cells.now ≤ GATHERED_BYTES }
+    requires near { x ≤ FURTHEST }
+    requires room { length gather.old.kept + 160 + 6 * length cells.now ≤ GATHERED_BYTES }
     ensures kept { gather.new.kept ≡ gather.old.kept ++ run_text x (run style.now (bytes_of cells.now)) }
     ensures same_count { gather.new.written ≡ gather.old.written }
-    ensures short { length gather.new.kept ≤ length gather.old.kept + 128 + 6 * length cells.now }
+    ensures short { length gather.new.kept ≤ length gather.old.kept + 160 + 6 * length cells.now }
 {
     append_run_tag(gather, x, style, cells);
     append_cells(gather, style, cells);
@@ -221,7 +254,7 @@ fn append_ground(gather: &mut Gather, x: usize, style: &Style, cells: &[Cell])
     ensures short { length gather.new.kept ≤ length gather.old.kept + 128 }
 {
     let width = style.dots() * cells.len();
-    let height = face_height(style.font) * usize::from(style.height);
+    let height = style_height(style);
     gather.extend(b"<path d=\"M");
     append_between(gather, b"", x, b" -");
     append_quarters(gather, 3 * height);
@@ -234,10 +267,11 @@ fn append_ground(gather: &mut Gather, x: usize, style: &Style, cells: &[Cell])
 #[tactic(auto, unfolding(crate::specs::Rows::run_tag))]
 fn append_run_tag(gather: &mut Gather, x: usize, style: &Style, cells: &[Cell])
     requires few { length cells.now ≤ LINE_CELLS }
-    requires room { length gather.old.kept + 121 ≤ GATHERED_BYTES }
+    requires near { x ≤ FURTHEST }
+    requires room { length gather.old.kept + 145 ≤ GATHERED_BYTES }
     ensures kept { gather.new.kept ≡ gather.old.kept ++ run_tag x (run style.now (bytes_of cells.now)) }
     ensures same_count { gather.new.written ≡ gather.old.written }
-    ensures short { length gather.new.kept ≤ length gather.old.kept + 121 }
+    ensures short { length gather.new.kept ≤ length gather.old.kept + 145 }
 {
     append_text_start(gather, x, style);
     let spacing = style.spacing as usize;
@@ -253,10 +287,11 @@ fn append_run_tag(gather: &mut Gather, x: usize, style: &Style, cells: &[Cell])
 // Appends the beginning of that tag.
 #[tactic(auto, unfolding(crate::specs::Rows::text_start))]
 fn append_text_start(gather: &mut Gather, x: usize, style: &Style)
-    requires { length gather.old.kept + 86 ≤ GATHERED_BYTES }
+    requires near { x ≤ FURTHEST }
+    requires room { length gather.old.kept + 110 ≤ GATHERED_BYTES }
     ensures kept { gather.new.kept ≡ gather.old.kept ++ text_start x style.now }
     ensures same_count { gather.new.written ≡ gather.old.written }
-    ensures short { length gather.new.kept ≤ length gather.old.kept + 86 }
+    ensures short { length gather.new.kept ≤ length gather.old.kept + 110 }
 {
     gather.extend(b"<text");
     append_text_place(gather, x, style);
@@ -266,12 +301,15 @@ fn append_text_start(gather: &mut Gather, x: usize, style: &Style)
 // Appends where the text of a style begins.
 #[tactic(auto, unfolding(crate::specs::Rows::text_place))]
 fn append_text_place(gather: &mut Gather, x: usize, style: &Style)
-    requires { length gather.old.kept + 60 ≤ GATHERED_BYTES }
+    requires near { x ≤ FURTHEST }
+    requires room { length gather.old.kept + 84 ≤ GATHERED_BYTES }
     ensures kept { gather.new.kept ≡ gather.old.kept ++ text_place x style.now }
     ensures same_count { gather.new.written ≡ gather.old.written }
-    ensures short { length gather.new.kept ≤ length gather.old.kept + 60 }
+    ensures short { length gather.new.kept ≤ length gather.old.kept + 84 }
 {
-    if is_plain_size(style) {
+    if style.turned {
+        append_turned_place(gather, x, style);
+    } else if is_plain_size(style) {
         append_between(gather, b" x=\"", x, b"\"");
     } else {
         append_scaled_place(gather, x, style);
@@ -290,6 +328,28 @@ fn append_scaled_place(gather: &mut Gather, x: usize, style: &Style)
     gather.extend(b" 0 0 ");
     append_small_number(gather, style.height);
     append_between(gather, b" ", x, b" 0)\"");
+}
+
+// Appends where a character that is turned begins, and how it is scaled.
+fn append_turned_place(gather: &mut Gather, x: usize, style: &Style)
+    requires near { x ≤ FURTHEST }
+    requires room { length gather.old.kept + 84 ≤ GATHERED_BYTES }
+    ensures kept { gather.new.kept ≡ gather.old.kept ++ turned_place x style.now }
+    ensures same_count { gather.new.written ≡ gather.old.written }
+    ensures short { length gather.new.kept ≤ length gather.old.kept + 84 }
+{
+    gather.extend(b" transform=\"matrix(0 ");
+    append_small_number(gather, style.width);
+    gather.extend(b" -");
+    append_small_number(gather, style.height);
+    gather.extend(b" 0 ");
+    append_quarters(
+        gather,
+        4 * x + face_height(style.font) * usize::from(style.height),
+    );
+    gather.extend(b" -");
+    append_quarters(gather, 3 * style_height(style));
+    gather.extend(b")\"");
 }
 
 // Whether a style isn't scaled.
@@ -338,7 +398,7 @@ fn append_underline(gather: &mut Gather, x: usize, style: &Style, cells: &[Cell]
     ensures same_count { gather.new.written ≡ gather.old.written }
     ensures short { length gather.new.kept ≤ length gather.old.kept + 128 }
 {
-    if style.underline == 0 {
+    if style.underline == 0 || style.turned {
         return;
     }
     let width = style.dots() * cells.len();

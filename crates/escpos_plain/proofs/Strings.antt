@@ -20,7 +20,7 @@ use Rattle.escpos_layout.specs.OnPaper.{read_cell}
 use Rattle.escpos_receipt.specs.Entries.{line_state}
 use Rattle.escpos_receipt.specs.ReadBack.{PrintStrings, PrintsAsWritten, lines_at, string_of}
 use Rattle.escpos_receipt.specs.Whole.{EachMayFollow, Whole, is_forbidden, is_nonempty}
-use Rattle.escpos_plain.specs.Rows.{NoInit, NoLayout, ShowsStrings, all_strings, is_layout, is_layout_member, row_cells}
+use Rattle.escpos_plain.specs.Rows.{NoInit, NoLayout, ShowsStrings, all_strings, is_layout, is_layout_member, row_cells, unplaced}
 use Rattle.escpos_receipt.specs.declared.member.Member.{Member}
 use Rattle.escpos_receipt.specs.declared.member.Member.TheVariants as has
 use Rattle.escpos_receipt.specs.Entries.{member_of}
@@ -55,7 +55,7 @@ no_line w cs whole = empty_list (line w cs) (empty_line w cs ∙ is_empty_where 
 -- So all that it types stands in rows.
 all_in_rows : (w : ℕ) (cs : List Command) → Whole cs → row_cells (printed w cs) ≡ typed [] cs
 all_in_rows w cs whole =
-    sym (append-nil (row_cells (printed w cs))) ∙ ap (λ l. row_cells (printed w cs) ++ l) (sym (no_line w cs whole))
+    sym (append-nil (row_cells (printed w cs))) ∙ ap (λ l. row_cells (printed w cs) ++ map unplaced l) (sym (no_line w cs whole))
     ∙ all_cells w cs (no_init_from [] cs whole.in_place)
 
 -- ## Entries

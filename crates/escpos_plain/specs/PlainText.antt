@@ -2,7 +2,7 @@
 use Rattle.std.specs.Prelude.{ℕ, Bool, List, [], ◌∷◌, ◌++◌, codes, encode_utf8, flat_map}
 use Rattle.std.specs.Option.{unwrap_or}
 use Rattle.escpos_command.specs.declared.bytes.TheConstants.{LF}
-use Rattle.escpos_command.specs.declared.parameter.choices.Alignment.{Alignment}
+use Rattle.escpos_paper.specs.declared.style.Placing.{Placing}
 use Rattle.escpos_paper.specs.declared.cell.Cell.{Cell}
 use Rattle.escpos_paper.specs.declared.item.Item.{Item}
 use Rattle.escpos_paper.specs.declared.item.Item.TheVariants.{Row}
@@ -22,8 +22,8 @@ abbrev pub plain_cells : List Cell → List ℕ
 plain_cells cells = flat_map (λ x. encode_utf8 (shown x)) cells
 
 -- What comes before the cells of a row: how it is aligned, and whether it is upside down.
-abbrev pub row_start : Alignment → Bool → List ℕ
-row_start align upside_down = codes "row " ++ align_name align ++ codes " " ++ upside_text upside_down
+abbrev pub row_start : Placing → Bool → List ℕ
+row_start align upside_down = codes "row " ++ align_name align.side ++ codes " " ++ upside_text upside_down
 
 -- The line of an item, without its end. Only that of a row differs from the line in the other text.
 abbrev pub plain_words : Item → List ℕ

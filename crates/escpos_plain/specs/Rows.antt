@@ -9,6 +9,7 @@ use Rattle.escpos_command.specs.declared.command.Command.TheVariants.{Init}
 use Rattle.escpos_paper.specs.declared.cell.Cell.{Cell}
 use Rattle.escpos_paper.specs.declared.item.Item.{Item}
 use Rattle.escpos_paper.specs.declared.item.Item.TheVariants.{Row}
+use Rattle.escpos_paper.specs.Cells.{cell}
 use Rattle.escpos_receipt.specs.Describes.{IsJson}
 use Rattle.escpos_layout.specs.OnPaper.{read_cell}
 use Rattle.escpos_receipt.specs.declared.member.Member.{Member}
@@ -16,9 +17,13 @@ use Rattle.escpos_receipt.specs.declared.member.Member.TheVariants as has
 use Rattle.escpos_receipt.specs.Entries.{member_of}
 use Rattle.escpos_receipt.specs.ReadBack.{string_of}
 
--- The cells of an item: those of a row, and none of any other item.
+-- A cell without its place.
+abbrev pub unplaced : Cell → Cell
+unplaced x = cell x.style x.byte
+
+-- The cells of an item without their places: those of a row, and none of any other item.
 abbrev pub cells_on : Item → List Cell
-cells_on (Row align upside_down cells) = cells
+cells_on (Row align upside_down cells) = map unplaced cells
 cells_on item = []
 
 -- The cells of all rows, one after another.

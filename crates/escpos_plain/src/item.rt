@@ -8,7 +8,7 @@ ghost use Rattle.escpos_plain.specs.PlainText.{shown, plain_cells, row_start, pl
 
 use escpos_command::{Alignment, LF};
 use escpos_io::{ByteOut, Device, GATHERED_BYTES, Gather, Piece};
-use escpos_paper::{Cell, Cells, Item, LINE_CELLS};
+use escpos_paper::{Cell, Cells, Item, LINE_CELLS, Placing};
 use escpos_text::reads;
 
 /// The most bytes of a row's line: at most 19 before its cells, and 113 characters of at most 4 bytes.
@@ -48,7 +48,7 @@ pub fn put_plain_item<W: ByteOut>(
 }
 
 // Appends the line of a row.
-fn append_row(gather: &mut Gather, align: Alignment, upside_down: bool, cells: &Cells)
+fn append_row(gather: &mut Gather, align: Placing, upside_down: bool, cells: &Cells)
     requires { length gather.old.kept + ROW_BYTES ≤ GATHERED_BYTES }
     ensures kept { gather.new.kept ≡ gather.old.kept ++ plain_text (Row align upside_down cells.now) }
     ensures same_count { gather.new.written ≡ gather.old.written }
@@ -63,11 +63,11 @@ fn append_row(gather: &mut Gather, align: Alignment, upside_down: bool, cells: &
 }
 
 // What the line of a row in this alignment begins with.
-fn start_of(align: Alignment) -> &'static [u8]
+fn start_of(align: Placing) -> &'static [u8]
     ensures start { result.now ≡ row_start align false }
     ensures short { length result.now ≤ 11 }
 {
-    match align {
+    match align.side {
         Alignment::Left => b"row left ",
         Alignment::Center => b"row center ",
         Alignment::Right => b"row right ",

@@ -3,10 +3,14 @@ use Rattle.std.specs.Prelude.{◌==◌, ◌&&◌, not, nat_le}
 use Rattle.std.proofs.Common.{◌≡◌, ◌≢◌, ◌≤◌, ◌⊎◌, true, ℕ, IsTrue, List, [], ◌∷◌, ◌++◌, refl, sym, ◌∙◌, ap, subst, append-nil, arith}
 use Rattle.std.proofs.lemmas.Bool.Decides.{nat_tests}
 use Rattle.std.proofs.lemmas.Grind.{flat_map-append}
-use Rattle.escpos_command.specs.declared.bytes.TheConstants.{LF, CR, DLE, ESC, GS}
+use Rattle.escpos_command.specs.declared.bytes.TheConstants.{HT, LF, CR, DLE, ESC, GS}
 use Rattle.escpos_command.specs.declared.command.Command.{Command}
 use Rattle.escpos_command.specs.declared.command.Command.TheVariants as kind
 use Rattle.escpos_command.specs.declared.setting.SettingKind.{SettingKind}
+use Rattle.escpos_command.specs.declared.parameter.position.PositionKind.{PositionKind}
+use Rattle.escpos_command.specs.declared.parameter.position.PositionKind.TheVariants as position
+use Rattle.escpos_command.specs.Positions.{position_prefix, word_bytes}
+use Rattle.escpos_command.proofs.PositionTree.{spelled_position}
 use Rattle.escpos_command.specs.CommandTable.{IsCommand, row, spell}
 use Rattle.escpos_command.specs.SettingTable.{table, number, blank, row_for}
 use Rattle.escpos_command.proofs.SettingFacts.{is_table, firsts}
@@ -57,14 +61,23 @@ is_start b h =
 first_is_start : (which : SettingKind) → IsStart (row_for table which).first
 first_is_start which = is_start (row_for table which).first (all_at (λ r. nat_le 9 r.first && not (r.first == 20)) table (number which) blank firsts (covered table is_table which))
 
+position_starts : (which : PositionKind) (more : List ℕ) → Starts (position_prefix which ++ more)
+position_starts position.Absolute more = starts ESC _ esc
+position_starts position.Relative more = starts ESC _ esc
+position_starts position.LeftMargin more = starts GS _ gs
+position_starts position.AreaWidth more = starts GS _ gs
+
 pub command_starts : (c : Command) → IsCommand c → Starts (row c)
 command_starts (kind.Char b) h = starts b _ (character_start b h)
+command_starts kind.Tab h = starts HT _ (omega arith, λ e. omega (arith, e))
 command_starts kind.LineFeed h = starts LF _ (omega arith, λ e. omega (arith, e))
 command_starts kind.Return h = starts CR _ (omega arith, λ e. omega (arith, e))
 command_starts kind.Init h = starts ESC _ esc
 command_starts (kind.Set s) h = starts (row_for table s.0).first _ (first_is_start s.0)
 command_starts (kind.FeedLines n) h = starts ESC _ esc
 command_starts (kind.FeedUnits n) h = starts ESC _ esc
+command_starts (kind.Position p) h = subst Starts (sym (spelled_position p.0 p.1)) (position_starts p.0 (word_bytes p.1))
+command_starts (kind.TabStops columns) h = starts ESC _ esc
 command_starts (kind.Pulse pulse) h = starts ESC _ esc
 command_starts (kind.Bars bars) h = starts GS _ gs
 command_starts (kind.Raster raster) h = starts GS _ gs

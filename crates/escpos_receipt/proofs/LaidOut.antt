@@ -8,7 +8,8 @@ use Rattle.escpos_command.specs.declared.command.Command.{Command}
 use Rattle.escpos_command.specs.declared.command.Command.TheVariants.{LineFeed}
 use Rattle.escpos_command.specs.Text.{text}
 use Rattle.escpos_paper.specs.declared.style.Style.{Style}
-use Rattle.escpos_paper.specs.Rows.{line}
+use Rattle.escpos_paper.specs.Rows.{area, line, moved}
+use Rattle.escpos_paper.proofs.AtRest.{AreStill, still_rest, whole_area}
 use Rattle.escpos_paper.specs.Styles.{is_empty, style}
 use Rattle.escpos_paper.proofs.OneMore.{style-snoc}
 use Rattle.escpos_paper.proofs.Sheets.{empty_line}
@@ -32,8 +33,8 @@ use Rattle.escpos_receipt.proofs.Following.{line_flag}
 -- What escpos_layout says of lines on paper, and of the lines of each layout.
 pub record Laws : Type 0 where
   pub printed : (width : ℕ) (before : List Command) (encoding : Encoding) (lines : List (List ℕ)) (commands : List Command)
-      → line width before ≡ [] → IsInForce before encoding
-      → AllByRecursion (λ text. length text ≤ columns_of width (style before)) lines
+      → line width before ≡ [] → moved width before ≡ None → IsInForce before encoding
+      → AllByRecursion (λ text. length text ≤ columns_of (area width before) (style before)) lines
       → lines_written encoding lines ≡ Ok commands → PrintsLines width before commands encoding lines
   pub wrapped : (columns : ℕ) (text : List ℕ) → AreNarrow columns (wrap columns text)
   pub pairs : (columns : ℕ) (left right : List ℕ) → AreNarrow columns (pair columns left right)
@@ -96,6 +97,15 @@ same_style : (cs : List Command) (b : Bool) → style (cs ++ line_ended b) ≡ s
 same_style cs true = style-snoc cs LineFeed
 same_style cs false = ap style (append-nil cs)
 
+-- No entry moves anything.
+pub still_both : (xs ys : List Command) → AreStill xs → AreStill ys → AreStill (xs ++ ys)
+still_both [] ys h k = k
+still_both (x ∷ xs) ys h k = (h.0, still_both xs ys h.1 k)
+
+pub still_ended : (b : Bool) → AreStill (line_ended b)
+still_ended true = (refl, tt)
+still_ended false = tt
+
 no_line : (width : ℕ) (cs : List Command) → line width (cs ++ line_ended (has_text cs)) ≡ []
 no_line width cs =
     let before = cs ++ line_ended (has_text cs) in
@@ -103,42 +113,44 @@ no_line width cs =
 
 -- ## Entries
 
-written_lines : (b : Bool) (r : Result (List Command) TextFault) (part : List Command) → after_line b (or_fault r) ≡ Ok part
+pub written_lines : (b : Bool) (r : Result (List Command) TextFault) (part : List Command) → after_line b (or_fault r) ≡ Ok part
     → (cs : List Command) × (r ≡ Ok cs) × (part ≡ line_ended b ++ cs)
 written_lines b (Ok cs) part e =
     let same : line_ended b ++ cs ≡ part = cc in
     (cs, refl, sym same)
 written_lines b (Err why) part e = absurd cc
 
-lines_print : Laws → (options : ReceiptOptions) (earlier : List Data) (before part : List Command) (lines : List (List ℕ))
+lines_print : Laws → (options : ReceiptOptions) (earlier : List Data) (before part : List Command) (lines : List (List ℕ)) → AreStill before
     → AreNarrow (columns_of options.width (style before)) lines
     → laid_out (in_force options earlier before) (Some lines) ≡ Ok part → LaysOut options before part (encoding_for options earlier before) lines
-lines_print laws options earlier before part lines few means =
+lines_print laws options earlier before part lines still few means =
     let e = encoding_for options earlier before in
     let start = before ++ line_ended (has_text before) in
     let same = same_style before (has_text before) in
+    let at_start = still_both before (line_ended (has_text before)) still (still_ended (has_text before)) in
     let (cs, is, joined) = written_lines (has_text before) (lines_written e lines) part means in
     record {
       commands = cs;
       ended = joined;
-      prints = laws.printed options.width start e lines cs (no_line options.width before)
+      prints = laws.printed options.width start e lines cs (no_line options.width before) (still_rest options.width start at_start).follows
           (record { set = ap (λ (s : Style). s.character_set) (sym same); table = ap (λ (s : Style). s.table) (sym same) })
-          (subst (λ (s : Style). AllByRecursion (λ text. length text ≤ columns_of options.width s) lines) (sym same) few) is;
+          (subst (λ a. AllByRecursion (λ text. length text ≤ columns_of a (style start)) lines) (sym (whole_area options.width start at_start))
+          (subst (λ (s : Style). AllByRecursion (λ text. length text ≤ columns_of options.width s) lines) (sym same) few)) is;
     }
 
-at_lines : Laws → (options : ReceiptOptions) (earlier : List Data) (before part : List Command) (m : Member) (v : Data) (lines : List (List ℕ))
+at_lines : Laws → (options : ReceiptOptions) (earlier : List Data) (before part : List Command) (m : Member) (v : Data) (lines : List (List ℕ)) → AreStill before
     → laid_out (in_force options earlier before) (lines_of (columns_of options.width (style before)) m v) ≡ Ok part
     → lines_of (columns_of options.width (style before)) m v ≡ Some lines
     → LaysOut options before part (encoding_for options earlier before) lines
-at_lines laws options earlier before part m v lines means is =
-    lines_print laws options earlier before part lines (narrow laws _ m v lines is) (ap (laid_out (in_force options earlier before)) (sym is) ∙ means)
+at_lines laws options earlier before part m v lines still means is =
+    lines_print laws options earlier before part lines still (narrow laws _ m v lines is) (ap (laid_out (in_force options earlier before)) (sym is) ∙ means)
 
-pub layout_prints : Laws → (options : ReceiptOptions) (earlier : List Data) (before part : List Command) (m : Option (Member × Data)) (lines : List (List ℕ))
+pub layout_prints : Laws → (options : ReceiptOptions) (earlier : List Data) (before part : List Command) (m : Option (Member × Data)) (lines : List (List ℕ)) → AreStill before
     → commands_or (in_force options earlier before) m ≡ Ok part → lines_in (in_force options earlier before).line m ≡ Some lines
     → LaysOut options before part (encoding_for options earlier before) lines
-layout_prints laws options earlier before part None lines means is = absurd cc
-layout_prints laws options earlier before part (Some (has.Pair, v)) lines means is = at_lines laws options earlier before part has.Pair v lines means is
-layout_prints laws options earlier before part (Some (has.Row, v)) lines means is = at_lines laws options earlier before part has.Row v lines means is
-layout_prints laws options earlier before part (Some (has.Rule, v)) lines means is = at_lines laws options earlier before part has.Rule v lines means is
-layout_prints laws options earlier before part (Some (has.Wrap, v)) lines means is = at_lines laws options earlier before part has.Wrap v lines means is
-layout_prints laws options earlier before part (Some (m, v)) lines means is = absurd cc
+layout_prints laws options earlier before part None lines still means is = absurd cc
+layout_prints laws options earlier before part (Some (has.Pair, v)) lines still means is = at_lines laws options earlier before part has.Pair v lines still means is
+layout_prints laws options earlier before part (Some (has.Row, v)) lines still means is = at_lines laws options earlier before part has.Row v lines still means is
+layout_prints laws options earlier before part (Some (has.Rule, v)) lines still means is = at_lines laws options earlier before part has.Rule v lines still means is
+layout_prints laws options earlier before part (Some (has.Wrap, v)) lines still means is = at_lines laws options earlier before part has.Wrap v lines still means is
+layout_prints laws options earlier before part (Some (m, v)) lines still means is = absurd cc

@@ -32,8 +32,14 @@ use Rattle.escpos_receipt.specs.declared.member.Member.{Member}
 use Rattle.escpos_receipt.specs.declared.member.Member.TheVariants as has
 use Rattle.escpos_receipt.specs.declared.options.ReceiptOptions.{ReceiptOptions}
 use Rattle.escpos_receipt.specs.Describes.{DescribesWith, Follow}
-use Rattle.escpos_receipt.specs.Entries.{◌>>=◌, all, bars_of, bytes_of, command_of, commands_or, in_force, columns_in, encoding_for, laid_out, lines_of, member_of, nothing, number_in, one, or_fault, qr_commands, qr_of, qr_parts, raster_of, size_and_digits, spacing_in, symbology_and_content, tables_in, text_in, with_line_feed}
-use Rattle.escpos_receipt.proofs.LaidOut.{Laws, layout_prints}
+use Rattle.escpos_receipt.specs.Entries.{◌>>=◌, all, bars_of, bytes_of, command_of, commands_or, in_force, columns_in, encoding_for, laid_out, line_ended, lines_of, member_of, nothing, number_in, one, or_fault, qr_commands, qr_of, qr_parts, raster_of, size_and_digits, spacing_in, symbology_and_content, tables_in, text_in, with_line_feed}
+use Rattle.escpos_text.specs.declared.encoding.Encoding.{Encoding}
+use Rattle.serde_json.specs.Find.{as_str}
+use Rattle.escpos_layout.specs.Writing.{lines_written}
+use Rattle.escpos_layout.proofs.InRange.{first_line, no_line}
+use Rattle.escpos_layout.proofs.Parts.{in_force_after}
+use Rattle.escpos_paper.proofs.AtRest.{AreStill, moves}
+use Rattle.escpos_receipt.proofs.LaidOut.{Laws, layout_prints, still_both, still_ended, written_lines}
 use Rattle.escpos_receipt.specs.ReadBack.{Prints, PrintStrings, PrintsAsWritten, lines_in, string_in}
 use Rattle.escpos_paper.specs.Typed.{typed}
 use Rattle.escpos_layout.specs.OnPaper.{read_cell}
@@ -109,9 +115,9 @@ string_prints options earlier before part (Some m) string means is = absurd cc
 
 -- ## Entries without a string
 
--- A command that is made of what may be there has no character, if none that is made so has one.
+-- A command that is made of what may be there has no character and moves nothing, if none that is made so has one or does so.
 abbrev IsSilent : Command → Type 0
-IsSilent c = characters c ≡ []
+IsSilent c = (characters c ≡ []) × (moves c ≡ false)
 
 of_some : (x c : Command) → Some x ≡ Some c → IsSilent x → IsSilent c
 of_some x c e h =
@@ -133,42 +139,42 @@ where_true true x c h e = of_some x c e h
 where_true false x c h e = absurd cc
 
 spacing_silent : (v : Data) (c : Command) → spacing_in v ≡ Some c → IsSilent c
-spacing_silent (json.string name) c e = where_true (bytes_eq name (codes "default")) (kind.Set (sets.DefaultSpacing, None)) c refl e
-spacing_silent v c e = mapped (set_to sets.LineSpacing) (λ _. refl) (number_in 0 255 v) c e
+spacing_silent (json.string name) c e = where_true (bytes_eq name (codes "default")) (kind.Set (sets.DefaultSpacing, None)) c (refl, refl) e
+spacing_silent v c e = mapped (set_to sets.LineSpacing) (λ _. (refl, refl)) (number_in 0 255 v) c e
 
 bars_silent : (p : Symbology × List ℕ) (c : Command) → bars_of p.0 p.1 ≡ Some c → IsSilent c
-bars_silent p c e = where_true (is_barcode (barcode B p.0 p.1)) (kind.Bars (barcode B p.0 p.1)) c refl e
+bars_silent p c e = where_true (is_barcode (barcode B p.0 p.1)) (kind.Bars (barcode B p.0 p.1)) c (refl, refl) e
 
 raster_silent : (scale width height : ℕ) (dots : List ℕ) (c : Command) → raster_of scale width height dots ≡ Some c → IsSilent c
 raster_silent scale width height dots c e =
-    where_true (is_raster (picture scale width height dots)) (kind.Raster (picture scale width height dots)) c refl e
+    where_true (is_raster (picture scale width height dots)) (kind.Raster (picture scale width height dots)) c (refl, refl) e
 
 command_silent : (m : Member) (v : Data) (c : Command) → command_of m v ≡ Some c → IsSilent c
-command_silent has.Feed v c e = mapped kind.FeedLines (λ _. refl) _ c e
-command_silent has.Units v c e = mapped kind.FeedUnits (λ _. refl) _ c e
+command_silent has.Feed v c e = mapped kind.FeedLines (λ _. (refl, refl)) _ c e
+command_silent has.Units v c e = mapped kind.FeedUnits (λ _. (refl, refl)) _ c e
 command_silent has.Spacing v c e = spacing_silent v c e
-command_silent has.Pulse v c e = mapped kind.Pulse (λ _. refl) _ c e
-command_silent has.Mode v c e = mapped (set_to sets.Mode) (λ _. refl) _ c e
-command_silent has.Bold v c e = mapped _ (λ _. refl) _ c e
-command_silent has.Strike v c e = mapped (set_to sets.DoubleStrike) (λ _. refl) _ c e
-command_silent has.Reverse v c e = mapped (set_to sets.Reverse) (λ _. refl) _ c e
-command_silent has.Underline v c e = mapped (set_to sets.Underline) (λ _. refl) _ c e
-command_silent has.Font v c e = mapped (set_to sets.Font) (λ _. refl) _ c e
-command_silent has.Table v c e = mapped (set_to sets.Table) (λ _. refl) _ c e
-command_silent has.CharacterSet v c e = mapped (set_to sets.CharacterSet) (λ _. refl) _ c e
-command_silent has.Align v c e = mapped (set_to sets.Align) (λ _. refl) _ c e
-command_silent has.Upside v c e = mapped (set_to sets.UpsideDown) (λ _. refl) _ c e
-command_silent has.Size v c e = mapped (set_to sets.Size) (λ _. refl) _ c e
-command_silent has.BarHeight v c e = mapped (set_to sets.BarHeight) (λ _. refl) _ c e
-command_silent has.BarWidth v c e = mapped (set_to sets.BarWidth) (λ _. refl) _ c e
-command_silent has.Hri v c e = mapped (set_to sets.HriPlace) (λ _. refl) _ c e
-command_silent has.HriFont v c e = mapped (set_to sets.HriFont) (λ _. refl) _ c e
+command_silent has.Pulse v c e = mapped kind.Pulse (λ _. (refl, refl)) _ c e
+command_silent has.Mode v c e = mapped (set_to sets.Mode) (λ _. (refl, refl)) _ c e
+command_silent has.Bold v c e = mapped _ (λ _. (refl, refl)) _ c e
+command_silent has.Strike v c e = mapped (set_to sets.DoubleStrike) (λ _. (refl, refl)) _ c e
+command_silent has.Reverse v c e = mapped (set_to sets.Reverse) (λ _. (refl, refl)) _ c e
+command_silent has.Underline v c e = mapped (set_to sets.Underline) (λ _. (refl, refl)) _ c e
+command_silent has.Font v c e = mapped (set_to sets.Font) (λ _. (refl, refl)) _ c e
+command_silent has.Table v c e = mapped (set_to sets.Table) (λ _. (refl, refl)) _ c e
+command_silent has.CharacterSet v c e = mapped (set_to sets.CharacterSet) (λ _. (refl, refl)) _ c e
+command_silent has.Align v c e = mapped (set_to sets.Align) (λ _. (refl, refl)) _ c e
+command_silent has.Upside v c e = mapped (set_to sets.UpsideDown) (λ _. (refl, refl)) _ c e
+command_silent has.Size v c e = mapped (set_to sets.Size) (λ _. (refl, refl)) _ c e
+command_silent has.BarHeight v c e = mapped (set_to sets.BarHeight) (λ _. (refl, refl)) _ c e
+command_silent has.BarWidth v c e = mapped (set_to sets.BarWidth) (λ _. (refl, refl)) _ c e
+command_silent has.Hri v c e = mapped (set_to sets.HriPlace) (λ _. (refl, refl)) _ c e
+command_silent has.HriFont v c e = mapped (set_to sets.HriFont) (λ _. (refl, refl)) _ c e
 command_silent has.Bars v c e = chained (λ (p : Symbology × List ℕ). bars_of p.0 p.1) bars_silent (symbology_and_content v) c e
 command_silent has.Raster v c e =
     chained (λ (p : ℕ × ℕ × ℕ × List ℕ). bytes_of (decode_of p.3) >>= raster_of p.0 p.1 p.2)
     (λ p d. chained (raster_of p.0 p.1 p.2) (raster_silent p.0 p.1 p.2) (bytes_of (decode_of p.3)) d) (size_and_digits v) c e
-command_silent has.Cut v c e = mapped _ (λ _. refl) _ c e
-command_silent has.FeedCut v c e = mapped kind.Cut (λ _. refl) _ c e
+command_silent has.Cut v c e = mapped _ (λ _. (refl, refl)) _ c e
+command_silent has.FeedCut v c e = mapped kind.Cut (λ _. (refl, refl)) _ c e
 command_silent m v c e = absurd cc
 
 -- What such entries give types nothing.
@@ -176,7 +182,7 @@ one_typed : (before part : List Command) (o : Option Command) → ((c : Command)
 one_typed before part None h e = absurd cc
 one_typed before part (Some c) h e =
     let same : c ∷ [] ≡ part = cc in
-    subst (λ l. typed before l ≡ []) same (ap (λ bs. map (cell (style before)) bs ++ []) (h c refl))
+    subst (λ l. typed before l ≡ []) same (ap (λ bs. map (cell (style before)) bs ++ []) (h c refl).0)
 
 code_where : (before part : List Command) (b : Bool) (p : ℕ × ℕ × List ℕ) → all (cond b (Some (qr_commands p.0 p.1 p.2)) None) ≡ Ok part → typed before part ≡ []
 code_where before part true p e =
@@ -211,20 +217,89 @@ nothing_typed f before part (Some (has.Qr, v)) means none plain = code_typed bef
 nothing_typed f before part (Some (has.Tables, v)) means none plain = choice_typed before part (tables_in v) means
 nothing_typed f before part (Some (m, v)) means none plain = one_typed before part (command_of m v) (command_silent m v) means
 
+-- ## No entry moves anything
+
+text_still : (cs : List Command) → AreOfText cs → AreStill cs
+text_still [] h = tt
+text_still (Char b ∷ cs) h = (refl, text_still cs h.2)
+text_still (Set (sets.Table, Some n) ∷ cs) h = (refl, text_still cs h.1)
+text_still (c ∷ cs) h = absurd h
+
+text_in_still : (e : Encoding) (o : Option (List ℕ)) (part : List Command) → text_in e o ≡ Ok part → AreStill part
+text_in_still e None part means = absurd cc
+text_in_still e (Some s) part means =
+    let text = nfc (chars s) in
+    text_still part (written-of_text e text part (of_text (written e text) part means))
+
+line_in_still : (e : Encoding) (o : Option (List ℕ)) (part : List Command) → with_line_feed (text_in e o) ≡ Ok part → AreStill part
+line_in_still e None part means = absurd cc
+line_in_still e (Some s) part means =
+    let text = nfc (chars s) in
+    let (cs, written_so, ends) = of_line (written e text) part means in
+    subst AreStill (sym ends) (still_both cs (LineFeed ∷ []) (text_still cs (written-of_text e text cs written_so)) (refl, tt))
+
+lines_still : (e : Encoding) (lines : List (List ℕ)) (cs : List Command) → lines_written e lines ≡ Ok cs → AreStill cs
+lines_still e [] cs h = subst AreStill (sym (no_line e cs h)) tt
+lines_still e (line ∷ lines) cs h =
+    let f = first_line e line lines cs h in
+    subst AreStill (sym f.joined)
+    (still_both f.text (LineFeed ∷ f.rest) (text_still f.text (written-of_text e line f.text f.text_written))
+    (refl, lines_still (in_force_after e f.text) lines f.rest f.rest_written))
+
+layout_still : (f : InForce) (o : Option (List (List ℕ))) (part : List Command) → laid_out f o ≡ Ok part → AreStill part
+layout_still f None part means = absurd cc
+layout_still f (Some lines) part means =
+    let (cs, is, joined) = written_lines f.line.in_line (lines_written f.encoding lines) part means in
+    subst AreStill (sym joined) (still_both (line_ended f.line.in_line) cs (still_ended f.line.in_line) (lines_still f.encoding lines cs is))
+
+code_still_where : (part : List Command) (b : Bool) (p : ℕ × ℕ × List ℕ) → all (cond b (Some (qr_commands p.0 p.1 p.2)) None) ≡ Ok part → AreStill part
+code_still_where part true p e =
+    let same : qr_commands p.0 p.1 p.2 ≡ part = cc in
+    subst AreStill same (refl, (refl, (refl, (refl, tt))))
+code_still_where part false p e = absurd cc
+
+code_still : (part : List Command) (o : Option (ℕ × ℕ × List ℕ)) → all (o >>= (λ p. qr_of p.0 p.1 p.2)) ≡ Ok part → AreStill part
+code_still part None e = absurd cc
+code_still part (Some p) e = code_still_where part (is_qr_data p.2) p e
+
+choice_still : (part : List Command) (o : Option (List ℕ)) → nothing o ≡ Ok part → AreStill part
+choice_still part None e = absurd cc
+choice_still part (Some ns) e =
+    let same : [] ≡ part = cc in
+    subst AreStill same tt
+
+one_still : (part : List Command) (o : Option Command) → ((c : Command) → o ≡ Some c → IsSilent c) → one o ≡ Ok part → AreStill part
+one_still part None h e = absurd cc
+one_still part (Some c) h e =
+    let same : c ∷ [] ≡ part = cc in
+    subst AreStill same ((h c refl).1, tt)
+
+part_still : (f : InForce) (part : List Command) (m : Option (Member × Data)) → commands_or f m ≡ Ok part → AreStill part
+part_still f part None means = absurd cc
+part_still f part (Some (has.Text, v)) means = text_in_still f.encoding (as_str v) part means
+part_still f part (Some (has.Line, v)) means = line_in_still f.encoding (as_str v) part means
+part_still f part (Some (has.Pair, v)) means = layout_still f (lines_of (columns_in f.line) has.Pair v) part means
+part_still f part (Some (has.Row, v)) means = layout_still f (lines_of (columns_in f.line) has.Row v) part means
+part_still f part (Some (has.Rule, v)) means = layout_still f (lines_of (columns_in f.line) has.Rule v) part means
+part_still f part (Some (has.Wrap, v)) means = layout_still f (lines_of (columns_in f.line) has.Wrap v) part means
+part_still f part (Some (has.Qr, v)) means = code_still part (qr_parts v) means
+part_still f part (Some (has.Tables, v)) means = choice_still part (tables_in v) means
+part_still f part (Some (m, v)) means = one_still part (command_of m v) (command_silent m v) means
+
 -- ## Entries
 
-follow_print : Laws → (options : ReceiptOptions) (earlier : List Data) (before : List Command) (ds : List Data) (cs : List Command)
+follow_print : Laws → (options : ReceiptOptions) (earlier : List Data) (before : List Command) (ds : List Data) (cs : List Command) → AreStill before
     → Follow options earlier before ds cs → PrintStrings options earlier before ds cs
-follow_print laws options earlier before [] cs e = e
-follow_print laws options earlier before (d ∷ ds) cs (part, more, means, joined, rest) = (
+follow_print laws options earlier before [] cs still e = e
+follow_print laws options earlier before (d ∷ ds) cs still (part, more, means, joined, rest) = (
   part,
   more,
   joined,
   λ string is. string_prints options earlier before part (member_of d) string means is,
-  λ lines is. layout_prints laws options earlier before part (member_of d) lines means is,
+  λ lines is. layout_prints laws options earlier before part (member_of d) lines still means is,
   λ none plain. nothing_typed (in_force options earlier before) before part (member_of d) means none plain,
-  follow_print laws options (earlier ++ d ∷ []) (before ++ part) ds more rest,
+  follow_print laws options (earlier ++ d ∷ []) (before ++ part) ds more (still_both before part still (part_still (in_force options earlier before) part (member_of d) means)) rest,
 )
 
 pub printed_as_written : Laws → (options : ReceiptOptions) (text : List ℕ) (cs : List Command) → DescribesWith options text cs → PrintsAsWritten options text cs
-printed_as_written laws options text cs d = (d.entries, d.json, follow_print laws options [] [] d.entries cs d.give)
+printed_as_written laws options text cs d = (d.entries, d.json, follow_print laws options [] [] d.entries cs tt d.give)

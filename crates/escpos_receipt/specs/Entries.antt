@@ -11,7 +11,7 @@ use Rattle.serde_json.specs.Events.{items_len, members_len}
 use Rattle.serde_json.specs.Find.{as_bool, as_i64, as_number, as_str, as_u64, get_member}
 use Rattle.escpos_command.specs.declared.bars.Form.TheVariants as form
 use Rattle.escpos_command.specs.declared.bars.Symbology.{Symbology}
-use Rattle.escpos_command.specs.declared.bars.Symbology.TheVariants.{UpcA, Ean13, Ean8, Code39, Itf, Codabar, Code128}
+use Rattle.escpos_command.specs.declared.bars.Symbology.TheVariants.{UpcA, UpcE, Ean13, Ean8, Code39, Itf, Codabar, Code93, Code128, Gs1Code128}
 use Rattle.escpos_command.specs.declared.command.Command.{Command}
 use Rattle.escpos_command.specs.declared.command.Command.TheVariants as kind
 use Rattle.escpos_command.specs.CommandTable.{set_to}
@@ -91,8 +91,8 @@ levels = (codes "L", 48) ∷ (codes "M", 49) ∷ (codes "Q", 50) ∷ (codes "H",
 
 abbrev pub symbologies : List (List ℕ × Symbology)
 symbologies =
-    (codes "upca", UpcA) ∷ (codes "ean13", Ean13) ∷ (codes "ean8", Ean8) ∷ (codes "code39", Code39) ∷ (codes "itf", Itf)
-    ∷ (codes "codabar", Codabar) ∷ (codes "code128", Code128) ∷ []
+    (codes "upca", UpcA) ∷ (codes "upce", UpcE) ∷ (codes "ean13", Ean13) ∷ (codes "ean8", Ean8) ∷ (codes "code39", Code39) ∷ (codes "itf", Itf)
+    ∷ (codes "codabar", Codabar) ∷ (codes "code93", Code93) ∷ (codes "code128", Code128) ∷ (codes "gs1_128", Gs1Code128) ∷ []
 
 -- ## Values
 

@@ -21,12 +21,15 @@ pub const LEVELS: [(&str, u8); 4] = [("L", 48), ("M", 49), ("Q", 50), ("H", 51)]
 pub const CUTS: [(&str, u8); 2] = [("full", 0), ("partial", 1)];
 
 /// The symbologies.
-pub const SYMBOLOGIES: [(&str, Symbology); 7] = [
+pub const SYMBOLOGIES: [(&str, Symbology); 10] = [
     ("upca", Symbology::UpcA),
+    ("upce", Symbology::UpcE),
     ("ean13", Symbology::Ean13),
     ("ean8", Symbology::Ean8),
     ("code39", Symbology::Code39),
     ("itf", Symbology::Itf),
     ("codabar", Symbology::Codabar),
+    ("code93", Symbology::Code93),
     ("code128", Symbology::Code128),
+    ("gs1_128", Symbology::Gs1Code128),
 ];

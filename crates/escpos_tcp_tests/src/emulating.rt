@@ -50,7 +50,7 @@ fn two_clients(rt: HostRuntime) {
 }
 
 const OTHER_LINKS_FOLLOW: &[Step] = &[
-    Step::Connect(b"Hi\n\x1B$\xFF\x07"),
+    Step::Connect(b"Hi\n\x1B&\xFF\x07"),
     Step::ConnectAndGo(1),
     Step::Connect(b"\x10\x04\x01Yo\n"),
     Step::Serve(

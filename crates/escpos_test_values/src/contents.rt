@@ -1,6 +1,6 @@
 //! Commands with content, for whose memory an allocation may fail once.
 
-use escpos_command::{Bars, Command, Form, QrData, Raster, Symbology};
+use escpos_command::{Bars, Command, Form, QrData, Raster, Symbology, TabStops};
 use std::alloc::{AllocError, Global};
 
 /// The spelling of a barcode, EAN-8 in form A.
@@ -45,6 +45,15 @@ pub fn picture(alloc: Global) -> Option<Raster> {
 pub fn stored(alloc: Global) -> Option<QrData> {
     let data = bytes_at_last(alloc, b"AB").ok()?;
     QrData::new(data).ok()
+}
+
+/// What `tab_stops` spells.
+pub const STOPS: &[u8] = b"\x1BD\x08\x10\x00";
+
+/// The tab stops that `STOPS` sets; `None` if two allocations fail.
+pub fn tab_stops(alloc: Global) -> Option<TabStops> {
+    let columns = bytes_at_last(alloc, b"\x08\x10").ok()?;
+    TabStops::new(columns).ok()
 }
 
 /// Whether a command of at most 32 bytes is spelled so.

@@ -1,7 +1,7 @@
 //! The command table, a spelling for each row.
 
 // A spelling of each row of the command table, with a barcode of each symbology in each form.
-const SPELLINGS: [&[u8]; 59] = [
+const SPELLINGS: [&[u8]; 71] = [
     b"A",
     b"\x0A",
     b"\x0D",
@@ -61,6 +61,18 @@ const SPELLINGS: [&[u8]; 59] = [
     b"\x1C.",
     b"\x1B \x05",
     b"\x1Br\x01",
+    b"\x09",
+    b"\x1B$\x40\x01",
+    b"\x1BD\x08\x10\xFF\x00",
+    b"\x1BD\x01\x02\x03\x04\x05\x06\x07\x08\x09\x0A\x0B\x0C\x0D\x0E\x0F\x10\x11\x12\x13\x14\x15\x16\x17\x18\x19\x1A\x1B\x1C\x1D\x1E\x1F\x20\x00",
+    b"\x1BV\x01",
+    b"\x1B\\\xF4\xFF",
+    b"\x1DL\x10\x00",
+    b"\x1DW\x00\x01",
+    b"\x1Dk\x01123456\x00",
+    b"\x1DkB\x0801234565",
+    b"\x1DkH\x03\x00a\x7F",
+    b"\x1DkJ\x05(01)*",
 ];
 
 /// A spelling of each row of the command table, with a barcode of each symbology in each form.

@@ -218,11 +218,17 @@ fn refuse_bars(
 }
 
 // Contents that no barcode has, and why.
-const NO_BARCODES: [(Form, Symbology, &[u8], BarFault); 19] = [
+const NO_BARCODES: [(Form, Symbology, &[u8], BarFault); 29] = [
     (Form::A, Symbology::Code128, b"{A0", BarFault::Form),
+    (Form::A, Symbology::Code93, b"A", BarFault::Form),
+    (Form::A, Symbology::Gs1Code128, b"12", BarFault::Form),
     (Form::A, Symbology::Code128, b"", BarFault::Form),
     (Form::A, Symbology::UpcA, b"0360002914", BarFault::Length),
     (Form::B, Symbology::UpcA, b"0360002914521", BarFault::Length),
+    (Form::A, Symbology::UpcE, b"12345", BarFault::Length),
+    (Form::B, Symbology::UpcE, b"012345678", BarFault::Length),
+    (Form::B, Symbology::Code93, b"", BarFault::Length),
+    (Form::B, Symbology::Gs1Code128, b"1", BarFault::Length),
     (Form::B, Symbology::Ean13, b"40063813339", BarFault::Length),
     (Form::A, Symbology::Ean8, b"551234", BarFault::Length),
     (Form::A, Symbology::Code39, b"", BarFault::Length),
@@ -235,6 +241,30 @@ const NO_BARCODES: [(Form, Symbology, &[u8], BarFault); 19] = [
         Symbology::UpcA,
         b"0360002914x",
         BarFault::Byte { at: 10 },
+    ),
+    (
+        Form::A,
+        Symbology::UpcE,
+        b"12345x",
+        BarFault::Byte { at: 5 },
+    ),
+    (
+        Form::B,
+        Symbology::UpcE,
+        b"1234567",
+        BarFault::Byte { at: 0 },
+    ),
+    (
+        Form::B,
+        Symbology::Code93,
+        b"A\x80",
+        BarFault::Byte { at: 1 },
+    ),
+    (
+        Form::B,
+        Symbology::Gs1Code128,
+        b"12\xFF",
+        BarFault::Byte { at: 2 },
     ),
     (Form::A, Symbology::Code39, b"AbC", BarFault::Byte { at: 1 }),
     (Form::B, Symbology::Codabar, b"0B", BarFault::Byte { at: 0 }),

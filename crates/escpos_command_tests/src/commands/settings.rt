@@ -14,7 +14,7 @@ type Row = (
     &'static str,
 );
 
-const REFERENCE: [Row; 24] = [
+const REFERENCE: [Row; 25] = [
     (SettingKind::Mode, &[0x1B, 0x21], &[0, 255], &[], "mode"),
     (
         SettingKind::Emphasis,
@@ -170,6 +170,13 @@ const REFERENCE: [Row; 24] = [
         &[0, 1, 48, 49],
         &[2, 47, 50, 255],
         "color",
+    ),
+    (
+        SettingKind::Turned,
+        &[0x1B, 0x56],
+        &[0, 1, 2, 48, 49, 50],
+        &[3, 47, 51, 255],
+        "turned",
     ),
 ];
 

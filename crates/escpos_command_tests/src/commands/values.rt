@@ -36,14 +36,17 @@ fn append_barcodes(
 }
 
 // The longest content of each symbology: its first bytes, a byte that comes so often, and its last bytes.
-const LONGEST: [(Symbology, Stream<'static>); 7] = [
+const LONGEST: [(Symbology, Stream<'static>); 10] = [
     (Symbology::UpcA, (b"", b'7', 12, b"")),
+    (Symbology::UpcE, (b"0", b'7', 11, b"")),
     (Symbology::Ean13, (b"", b'7', 13, b"")),
     (Symbology::Ean8, (b"", b'7', 8, b"")),
     (Symbology::Code39, (b"", b'$', 255, b"")),
     (Symbology::Itf, (b"", b'7', 254, b"")),
     (Symbology::Codabar, (b"A", b':', 253, b"d")),
+    (Symbology::Code93, (b"", 0x7F, 255, b"")),
     (Symbology::Code128, (b"{C", 0x7F, 253, b"")),
+    (Symbology::Gs1Code128, (b"", 0x7F, 255, b"")),
 ];
 
 // Appends a barcode of each form and symbology with its longest content.
@@ -68,7 +71,7 @@ fn has_room(rt: &impl Abort, alloc: Global, command: &Command) {
 fn longest_barcodes(rt: HostRuntime) {
     let mut commands = Vec::new(rt.alloc());
     append_longest(&rt, rt.alloc(), &mut commands);
-    assert!(rt; commands.len() == 13);
+    assert!(rt; commands.len() == 17);
     for command in &commands {
         has_room(&rt, rt.alloc(), command);
     }

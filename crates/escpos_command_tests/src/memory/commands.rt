@@ -1,7 +1,9 @@
 //! Spelling and copying commands.
 
 use escpos_command::{CharsFault, Command, chars_of, laws};
-use escpos_test_values::{BARCODE, BOTH, PICTURE, STORE, barcode, is_spelled, picture, stored};
+use escpos_test_values::{
+    BARCODE, BOTH, PICTURE, STOPS, STORE, barcode, is_spelled, picture, stored, tab_stops,
+};
 use std::alloc::Global;
 use std::process::Abort;
 
@@ -24,6 +26,9 @@ fn spell_refused(rt: HostRuntime) {
     out.clear();
     let command = Command::QrStore(stored(rt.alloc()).expect(&rt, "the data of a QR code"));
     spells(&rt, &command, &mut out, (b"", STORE));
+    out.clear();
+    let command = Command::TabStops(tab_stops(rt.alloc()).expect(&rt, "tab stops"));
+    spells(&rt, &command, &mut out, (b"", STOPS));
 }
 
 // The characters of a text. Where memory is refused, they are asked for again.
@@ -102,4 +107,8 @@ fn contents_clone_refused(rt: HostRuntime) {
     let copy = copy_at_last(&rt, &data);
     assert!(&rt; is_spelled(&Command::QrStore(copy), STORE));
     assert!(&rt; is_spelled(&Command::QrStore(data), STORE));
+    let stops = tab_stops(rt.alloc()).expect(&rt, "tab stops");
+    let copy = copy_at_last(&rt, &stops);
+    assert!(&rt; is_spelled(&Command::TabStops(copy), STOPS));
+    assert!(&rt; is_spelled(&Command::TabStops(stops), STOPS));
 }

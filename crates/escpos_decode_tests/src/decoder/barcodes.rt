@@ -49,13 +49,20 @@ fn itf(rt: HostRuntime) {
 // A symbology with its modes of form A and form B, its shortest and its longest content.
 type Contents = (Symbology, u8, u8, Stream<'static>, Stream<'static>);
 
-static CONTENTS: [Contents; 7] = [
+static CONTENTS: [Contents; 10] = [
     (
         Symbology::UpcA,
         0,
         65,
         (b"", b'0', 11, b""),
         (b"", b'9', 12, b""),
+    ),
+    (
+        Symbology::UpcE,
+        1,
+        66,
+        (b"", b'9', 6, b""),
+        (b"0", b'9', 11, b""),
     ),
     (
         Symbology::Ean13,
@@ -92,13 +99,27 @@ static CONTENTS: [Contents; 7] = [
         (b"A", b'0', 0, b"d"),
         (b"a0$+-./:", b'9', 246, b"D"),
     ),
-    // Form A has no such mode.
+    // Form A has no such modes.
+    (
+        Symbology::Code93,
+        7,
+        72,
+        (b"", 0, 1, b""),
+        (b"", 0x7F, 255, b""),
+    ),
     (
         Symbology::Code128,
         8,
         73,
         (b"{A", b'0', 0, b""),
         (b"{C\x00", 0x7F, 252, b""),
+    ),
+    (
+        Symbology::Gs1Code128,
+        9,
+        74,
+        (b"", b'{', 2, b""),
+        (b"\x00", 0x7F, 254, b""),
     ),
 ];
 
@@ -140,10 +161,11 @@ fn reads_in_both_forms(
     content: &[u8],
 ) {
     reads_counted(rt, alloc, (symbology, mode_b), content);
-    if symbology == Symbology::Code128 {
-        refuses_last(rt, alloc, &[0x1D, 0x6B, mode_a], BAD);
-    } else {
-        reads_closed(rt, alloc, (symbology, mode_a), content);
+    match symbology {
+        Symbology::Code93 | Symbology::Code128 | Symbology::Gs1Code128 => {
+            refuses_last(rt, alloc, &[0x1D, 0x6B, mode_a], BAD);
+        }
+        _ => reads_closed(rt, alloc, (symbology, mode_a), content),
     }
 }
 
@@ -159,10 +181,12 @@ fn shortest_and_longest_contents(rt: HostRuntime) {
 }
 
 // Contents of which the last byte is refused, at its exact place.
-const REFUSED: [Stream<'static>; 44] = [
+const REFUSED: [Stream<'static>; 59] = [
     // form A: 00 too early
     (b"\x1Dk\x00", b'1', 0, b"\x00"),
     (b"\x1Dk\x00", b'1', 10, b"\x00"),
+    (b"\x1Dk\x01", b'1', 5, b"\x00"),
+    (b"\x1Dk\x01", b'0', 9, b"\x00"),
     (b"\x1Dk\x02", b'1', 11, b"\x00"),
     (b"\x1Dk\x03", b'1', 6, b"\x00"),
     (b"\x1Dk\x04", b'A', 0, b"\x00"),
@@ -174,6 +198,8 @@ const REFUSED: [Stream<'static>; 44] = [
     (b"\x1Dk\x06A", b'1', 253, b"\x00"),
     // form A: no 00 where the longest content ends
     (b"\x1Dk\x00", b'1', 12, b"1"),
+    (b"\x1Dk\x01", b'1', 6, b"1"),
+    (b"\x1Dk\x01", b'0', 12, b"0"),
     (b"\x1Dk\x02", b'1', 13, b"1"),
     (b"\x1Dk\x03", b'1', 8, b"1"),
     (b"\x1Dk\x04", b'A', 255, b"A"),
@@ -184,6 +210,9 @@ const REFUSED: [Stream<'static>; 44] = [
     (b"\x1Dk\x06AB", b'1', 0, b"A"),
     // form A: a byte that the symbology doesn't have
     (b"\x1Dk\x00", b'1', 11, b"A"),
+    (b"\x1Dk\x01", b'1', 0, b"\x00"),
+    (b"\x1Dk\x01", b'1', 0, b"A"),
+    (b"\x1Dk\x01", b'0', 6, b":"),
     (b"\x1Dk\x02", b'1', 0, b"/"),
     (b"\x1Dk\x03", b'1', 7, b":"),
     (b"\x1Dk\x04", b'A', 254, b"a"),
@@ -194,14 +223,20 @@ const REFUSED: [Stream<'static>; 44] = [
     // form B: a length that the symbology doesn't have
     (b"\x1DkA", b'1', 0, b"\x0A"),
     (b"\x1DkA", b'1', 0, b"\x0D"),
+    (b"\x1DkB", b'1', 0, b"\x05"),
+    (b"\x1DkB", b'1', 0, b"\x09"),
     (b"\x1DkC", b'1', 0, b"\x0E"),
     (b"\x1DkD", b'1', 0, b"\x09"),
     (b"\x1DkE", b'1', 0, b"\x00"),
     (b"\x1DkF", b'1', 0, b"\xFF"),
     (b"\x1DkG", b'1', 0, b"\x01"),
+    (b"\x1DkH", b'1', 0, b"\x00"),
     (b"\x1DkI", b'1', 0, b"\x01"),
+    (b"\x1DkJ", b'1', 0, b"\x01"),
     // form B: a byte that can't stand at its place
     (b"\x1DkA\x0B", b'1', 10, b"\x00"),
+    (b"\x1DkB\x07", b'1', 1, b""),
+    (b"\x1DkB\x06", b'1', 5, b"A"),
     (b"\x1DkE\xFF", b'A', 254, b"a"),
     (b"\x1DkG\xFFA", b'1', 253, b"1"),
     (b"\x1DkG\xFFA", b'1', 252, b"B"),
@@ -209,6 +244,8 @@ const REFUSED: [Stream<'static>; 44] = [
     (b"\x1DkI\x02{", b'1', 0, b"D"),
     (b"\x1DkI\x03{A", b'1', 0, b"\x80"),
     (b"\x1DkI\xFF{C", b'1', 252, b"\xFF"),
+    (b"\x1DkH\xFF", 0x7F, 254, b"\x80"),
+    (b"\x1DkJ\x02", b'{', 1, b"\x80"),
 ];
 
 fn refused_streams() -> &'static [Stream<'static>] {
@@ -221,7 +258,7 @@ fn refused_contents(rt: HostRuntime) {
         let bytes = bytes_of(rt.alloc(), *stream).expect(&rt, "memory");
         refuses_last(&rt, rt.alloc(), &bytes, BARCODE);
     }
-    for mode in [1, 7, 8, 64, 66, 72, 74] {
+    for mode in [7, 8, 9, 64, 75] {
         refuses_last(&rt, rt.alloc(), &[0x1D, 0x6B, mode], BAD);
     }
 }

@@ -6,7 +6,8 @@
 use crate::support::comparison::agrees;
 use crate::support::decoders::{BAD, decodes, holds, push_half, reads, refuses_last, steps_to};
 use escpos_command::{
-    Character, Command, Cut, FaultReason, FeedUnits, MarkId, Pulse, Reporting, Setting, SettingKind,
+    Character, Command, Cut, FaultReason, FeedUnits, MarkId, Position, PositionKind, Pulse,
+    Reporting, Setting, SettingKind, TabStops,
 };
 use escpos_decode::{DecodeFault, Decoder, End, Step};
 use escpos_test_values::{FIVE, MARK_35, five_commands_of};
@@ -72,22 +73,22 @@ fn refuses_after_init(rt: &impl Abort, decoder: &mut Decoder, fault: DecodeFault
     steps_to(rt, decoder, 0x1B, Ok(Step::More));
     steps_to(rt, decoder, 0x40, Ok(Step::Done(Command::Init)));
     steps_to(rt, decoder, 0x1B, Ok(Step::More));
-    steps_to(rt, decoder, 0x24, Err(fault));
+    steps_to(rt, decoder, 0x26, Err(fault));
 }
 
 #[test]
 fn unknown_bytes(rt: HostRuntime) {
     let why = FaultReason::UnknownCommand;
-    refuses_last(&rt, rt.alloc(), &[0x1B, 0x24], why);
+    refuses_last(&rt, rt.alloc(), &[0x1B, 0x26], why);
     refuses_last(&rt, rt.alloc(), &[0x06], FaultReason::UnknownByte);
     let fault = DecodeFault::Fault { at: 1, why };
     assert!(rt; [fault.number(), DecodeFault::Memory.number()] == [2, 6]);
     let mut decoder = Decoder::new(rt.alloc());
     refuses_after_init(&rt, &mut decoder, fault);
-    let pieces: [&[u8]; 3] = [&[0x1B], &[0x40, 0x1B], &[0x24, 0x41]];
+    let pieces: [&[u8]; 3] = [&[0x1B], &[0x40, 0x1B], &[0x26, 0x41]];
     let end = End::Fault { at: 3, why };
     decodes(&rt, rt.alloc(), &pieces, &[Command::Init], end);
-    agrees(&rt, rt.alloc(), &[0x1B, 0x40, 0x1B, 0x24]);
+    agrees(&rt, rt.alloc(), &[0x1B, 0x40, 0x1B, 0x26]);
 }
 
 // Letters after ESC and GS that the command table doesn't have.
@@ -96,9 +97,9 @@ fn letters_of_no_command(rt: HostRuntime) {
     let why = FaultReason::UnknownCommand;
     for bytes in [
         [0x1B, 0x4B],
-        [0x1B, 0x56],
-        [0x1D, 0x4C],
-        [0x1D, 0x57],
+        [0x1B, 0x57],
+        [0x1D, 0x50],
+        [0x1D, 0x54],
         [0x1D, 0x7C],
     ] {
         refuses_last(&rt, rt.alloc(), &bytes, why);
@@ -167,6 +168,59 @@ fn units_and_pulse(rt: HostRuntime) {
     let end = End::Read { half: 0 };
     decodes(&rt, rt.alloc(), &[&bytes], &commands, end);
     agrees(&rt, rt.alloc(), &bytes);
+}
+
+// The number of a position has its low byte first; that of ESC \\ may be less than 0.
+#[test]
+fn positions(rt: HostRuntime) {
+    for (bytes, kind, units) in [
+        ([0x1B, 0x24, 0x2C, 0x01], PositionKind::Absolute, 300),
+        ([0x1B, 0x5C, 0xF4, 0xFF], PositionKind::Relative, 65_524),
+        ([0x1D, 0x4C, 0x00, 0x00], PositionKind::LeftMargin, 0),
+        ([0x1D, 0x57, 0xFF, 0xFF], PositionKind::AreaWidth, 65_535),
+    ] {
+        let position = Position::new(kind, units);
+        assert!(rt; position.kind() == kind && position.units() == units);
+        reads(&rt, rt.alloc(), &bytes, &Command::Position(position));
+    }
+    reads(&rt, rt.alloc(), &[0x09], &Command::Tab);
+}
+
+// These bytes after ESC D are the columns of tab stops.
+fn reads_tab_stops(rt: &impl Abort, alloc: Global, columns: &[u8]) {
+    let mut bytes = Vec::new(alloc);
+    bytes.extend_from_slice(b"\x1BD").expect(rt, "memory");
+    bytes.extend_from_slice(columns).expect(rt, "memory");
+    bytes.push(0).expect(rt, "memory");
+    let stops = TabStops::new(columns.to_vec(alloc).expect(rt, "memory")).ok();
+    let stops = stops.expect(rt, "tab stops");
+    assert!(rt; stops.as_slice() == columns);
+    reads(rt, alloc, &bytes, &Command::TabStops(stops));
+}
+
+// The first columns from 1 on.
+const COLUMNS: [u8; 33] = [
+    1, 2, 3, 4, 5, 6, 7, 8, 9, 10, 11, 12, 13, 14, 15, 16, 17, 18, 19, 20, 21, 22, 23, 24, 25, 26,
+    27, 28, 29, 30, 31, 32, 33,
+];
+
+// Tab stops rise, and are none to 32. One more, or one that doesn't rise, is refused at its byte.
+#[test]
+fn tab_stops(rt: HostRuntime) {
+    for columns in [b"".as_slice(), &[8, 16], &[255], &COLUMNS[..32]] {
+        reads_tab_stops(&rt, rt.alloc(), columns);
+    }
+    refuses_last(&rt, rt.alloc(), &[0x1B, 0x44, 8, 8], BAD);
+    refuses_last(&rt, rt.alloc(), &[0x1B, 0x44, 8, 16, 15], BAD);
+    refuses_last(&rt, rt.alloc(), &[0x1B, 0x44, 255, 255], BAD);
+    let mut bytes = [0x1B; 35];
+    bytes[1] = 0x44;
+    bytes[2..].copy_from_slice(&COLUMNS);
+    refuses_last(&rt, rt.alloc(), &bytes, BAD);
+    for columns in [b"\x00".as_slice(), &[2, 2], &[3, 1], &COLUMNS] {
+        let columns = columns.to_vec(rt.alloc()).expect(&rt, "memory");
+        assert!(rt; TabStops::new(columns).is_err());
+    }
 }
 
 // A switch keeps its byte as sent, though only bit 0 counts.

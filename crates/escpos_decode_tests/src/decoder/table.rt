@@ -63,12 +63,22 @@ fn every_byte_in_settings_of_the_fourth_profile(rt: HostRuntime) {
 }
 
 #[test]
+fn every_byte_in_positions(rt: HostRuntime) {
+    every_byte_follows(&rt, rt.alloc(), 59, 67);
+}
+
+#[test]
+fn every_byte_in_barcodes_of_the_fourth_profile(rt: HostRuntime) {
+    every_byte_follows(&rt, rt.alloc(), 67, 71);
+}
+
+#[test]
 fn all_spellings_in_one_stream(rt: HostRuntime) {
     let mut stream = Vec::new(rt.alloc());
     for spelling in spellings() {
         stream.extend_from_slice(spelling).expect(&rt, "memory");
     }
-    assert!(&rt; spellings().len() == 59);
+    assert!(&rt; spellings().len() == 71);
     agrees(&rt, rt.alloc(), &stream);
 }
 
@@ -92,9 +102,17 @@ fn begins_anew_after_a_fault(rt: HostRuntime) {
 
 // The bytes before a parameter, the parameters that are read there (the least and the greatest, and the
 // ends of each range between them), and their nearest neighbours, which are refused.
-const PARAMETERS: [(&[u8], &[u8], &[u8]); 32] = [
+const PARAMETERS: [(&[u8], &[u8], &[u8]); 40] = [
     (&[0x1B, 0x20], &[0, 255], &[]),
     (&[0x1B, 0x72], &[0, 1, 48, 49], &[2, 47, 50]),
+    (&[0x1B, 0x56], &[0, 2, 48, 50], &[3, 47, 51]),
+    (&[0x1B, 0x24, 0], &[0, 255], &[]),
+    (&[0x1B, 0x24, 255], &[0, 255], &[]),
+    (&[0x1B, 0x5C, 255], &[0, 127, 128, 255], &[]),
+    (&[0x1D, 0x4C, 255], &[0, 255], &[]),
+    (&[0x1D, 0x57, 255], &[0, 255], &[]),
+    (&[0x1B, 0x44], &[0], &[]),
+    (&[0x1B, 0x44, 1, 254, 255], &[0], &[1, 254, 255]),
     (&[0x1B, 0x21], &[0, 255], &[]),
     (&[0x1B, 0x2D], &[0, 2, 48, 50], &[3, 47, 51]),
     (&[0x1B, 0x33], &[0, 255], &[]),
@@ -147,7 +165,7 @@ fn least_and_greatest_parameters(rt: HostRuntime) {
         reads_with_parameters(&rt, rt.alloc(), &mut bytes, read);
         refuses_parameters(&rt, rt.alloc(), &mut bytes, refused);
     }
-    for first in [0x09, 0x0B, 0x0C, 0x0E, 0x0F, 0x11, 0x1A, 0x1E, 0x1F] {
+    for first in [0x06, 0x0B, 0x0C, 0x0E, 0x0F, 0x11, 0x1A, 0x1E, 0x1F] {
         refuses_last(&rt, rt.alloc(), &[first], FaultReason::UnknownByte);
     }
     for first in [0x10, 0x1B, 0x1C, 0x1D] {

@@ -5,8 +5,8 @@
 
 use escpos_command::{
     Bars, CR, Character, Command, Cut, DLE, EOT, ESC, FS, FaultReason, FeedLines, FeedUnits, Form,
-    GS, LF, MarkId, OldCut, Pulse, QrData, QrLevel, QrModel, QrSize, Raster, Reporting, Setting,
-    SettingKind, StatusKind, Symbology,
+    GS, HT, LF, MarkId, OldCut, Position, PositionKind, Pulse, QrData, QrLevel, QrModel, QrSize,
+    Raster, Reporting, Setting, SettingKind, StatusKind, Symbology, TabStops,
 };
 use std::alloc::Global;
 use std::process::Abort;
@@ -36,9 +36,11 @@ pub fn read(rt: &impl Abort, alloc: Global, bytes: &[u8]) -> Reading {
 fn command_spelled(rt: &impl Abort, alloc: Global, bytes: &[u8]) -> Option<Command> {
     Some(match bytes {
         [b @ 32..=255] => Command::Char(Character::new(*b).expect(rt, "a parameter")),
+        [HT] => Command::Tab,
         [LF] => Command::LineFeed,
         [CR] => Command::Return,
         [DLE, EOT, n @ 1..=4] => Command::Status(StatusKind::new(*n).expect(rt, "a parameter")),
+        [ESC, b'D', columns @ .., 0] => return tab_stops_spelled(rt, alloc, columns),
         [ESC, rest @ ..] => return spelled_by_escape(rt, rest),
         [FS, b'.'] => alone(rt, SettingKind::KanjiOff),
         [GS, b'k', rest @ ..] => return bars_spelled(rt, alloc, rest),
@@ -50,6 +52,33 @@ fn command_spelled(rt: &impl Abort, alloc: Global, bytes: &[u8]) -> Option<Comma
         [GS, rest @ ..] => return spelled_by_group(rt, rest),
         _ => return None,
     })
+}
+
+// The number of two bytes, the low one first, as a position of this kind.
+fn position(kind: PositionKind, low: u8, high: u8) -> Command {
+    Command::Position(Position::new(kind, u16::from_le_bytes([low, high])))
+}
+
+// The tab stops at these columns.
+fn tab_stops_spelled(rt: &impl Abort, alloc: Global, columns: &[u8]) -> Option<Command> {
+    if !are_tab_stops(columns) {
+        return None;
+    }
+    let columns = columns.to_vec(alloc).expect(rt, "memory");
+    let stops = TabStops::new(columns).ok();
+    Some(Command::TabStops(stops.expect(rt, "columns of the table")))
+}
+
+// Whether these are columns of tab stops.
+fn are_tab_stops(columns: &[u8]) -> bool {
+    let mut last = 0;
+    for column in columns {
+        if *column <= last {
+            return false;
+        }
+        last = *column;
+    }
+    columns.len() <= 32
 }
 
 // The command that sets this.
@@ -78,6 +107,9 @@ fn spelled_by_escape(rt: &impl Abort, rest: &[u8]) -> Option<Command> {
         [b'c', b'3', n] => set(rt, SettingKind::EndSensors, *n),
         [b'c', b'4', n] => set(rt, SettingKind::StopSensors, *n),
         [b'c', b'5', n] => set(rt, SettingKind::PanelButtons, *n),
+        [b'$', low, high] => position(PositionKind::Absolute, *low, *high),
+        [b'\\', low, high] => position(PositionKind::Relative, *low, *high),
+        [b'V', n @ (0..=2 | 48..=50)] => set(rt, SettingKind::Turned, *n),
         [b'3', n] => set(rt, SettingKind::LineSpacing, *n),
         [b'E', n] => set(rt, SettingKind::Emphasis, *n),
         [b'G', n] => set(rt, SettingKind::DoubleStrike, *n),
@@ -106,6 +138,8 @@ fn spelled_by_group(rt: &impl Abort, rest: &[u8]) -> Option<Command> {
         [b'V', m @ (65 | 66 | 97 | 98 | 103 | 104), n] => Command::Cut(Cut::with_feed(
             *m, *n,
         ).expect(rt, "a parameter")),
+        [b'L', low, high] => position(PositionKind::LeftMargin, *low, *high),
+        [b'W', low, high] => position(PositionKind::AreaWidth, *low, *high),
         [b'a', n] => Command::AutomaticStatus(Reporting::new(*n)),
         [b'b', n] => set(rt, SettingKind::Smoothing, *n),
         [b'f', n @ (0 | 1 | 48 | 49)] => set(rt, SettingKind::HriFont, *n),
@@ -169,7 +203,7 @@ fn begins_spelling(bytes: &[u8]) -> bool {
         [DLE] | [DLE, EOT] | [FS] => true,
         [ESC, rest @ ..] => begins_after_escape(rest),
         [GS, b'k', m @ 0..=6, content @ ..] => begins_form_a(*m, content),
-        [GS, b'k', m @ 65..=73, rest @ ..] => begins_form_b(*m, rest),
+        [GS, b'k', m @ 65..=74, rest @ ..] => begins_form_b(*m, rest),
         [GS, b'v', b'0'] => true,
         [GS, b'v', b'0', 0..=3 | 48..=51, rest @ ..] => begins_raster(rest),
         [GS, b'(', b'k', rest @ ..] => begins_qr(rest),
@@ -184,7 +218,9 @@ fn begins_after_escape(rest: &[u8]) -> bool {
         [] => true,
         [b'!' | b'-' | b'3' | b'E' | b'G' | b'M' | b'R'] => true,
         [b'a' | b'J' | b'd' | b'p' | b't' | b'{'] => true,
-        [b' ' | b'=' | b'U' | b'c' | b'r'] | [b'c', b'3'..=b'5'] => true,
+        [b' ' | b'=' | b'U' | b'V' | b'c' | b'r'] | [b'c', b'3'..=b'5'] => true,
+        [b'$' | b'\\'] | [b'$' | b'\\', _] => true,
+        [b'D', columns @ ..] => are_tab_stops(columns),
         [b'p', 0 | 1 | 48 | 49] => true,
         [b'p', 0 | 1 | 48 | 49, _] => true,
         _ => false,
@@ -196,6 +232,7 @@ fn begins_after_group(rest: &[u8]) -> bool {
     match rest {
         [] => true,
         [b'!' | b'(' | b'B' | b'H' | b'V' | b'a' | b'b' | b'f' | b'h' | b'k' | b'v' | b'w'] => true,
+        [b'L' | b'W'] | [b'L' | b'W', _] => true,
         [b'(', b'H'] => true,
         [b'(', b'H', 6] => true,
         [b'(', b'H', 6, 0] => true,
@@ -251,7 +288,7 @@ fn is_id(id: &[u8]) -> bool {
 fn bars_spelled(rt: &impl Abort, alloc: Global, rest: &[u8]) -> Option<Command> {
     let (form, mode, content) = match rest {
         [m @ 0..=6, content @ .., 0] => (Form::A, *m, content),
-        [m @ 65..=73, n, content @ ..] if content.len() == *n as usize => (Form::B, *m, content),
+        [m @ 65..=74, n, content @ ..] if content.len() == *n as usize => (Form::B, *m, content),
         _ => return None,
     };
     let symbology = symbology_of(form, mode).expect(rt, "memory");
@@ -292,12 +329,15 @@ fn begins_form_b(mode: u8, rest: &[u8]) -> bool {
 fn symbology_of(form: Form, mode: u8) -> Option<Symbology> {
     match (form, mode) {
         (Form::A, 0) | (Form::B, 65) => Some(Symbology::UpcA),
+        (Form::A, 1) | (Form::B, 66) => Some(Symbology::UpcE),
         (Form::A, 2) | (Form::B, 67) => Some(Symbology::Ean13),
         (Form::A, 3) | (Form::B, 68) => Some(Symbology::Ean8),
         (Form::A, 4) | (Form::B, 69) => Some(Symbology::Code39),
         (Form::A, 5) | (Form::B, 70) => Some(Symbology::Itf),
         (Form::A, 6) | (Form::B, 71) => Some(Symbology::Codabar),
+        (Form::B, 72) => Some(Symbology::Code93),
         (Form::B, 73) => Some(Symbology::Code128),
+        (Form::B, 74) => Some(Symbology::Gs1Code128),
         _ => None,
     }
 }
@@ -319,11 +359,14 @@ fn begins_content(symbology: Symbology, length: usize, bytes: &[u8]) -> bool {
 fn has_length(symbology: Symbology, length: usize) -> bool {
     match symbology {
         Symbology::UpcA => [11, 12].contains(&length),
+        Symbology::UpcE => [6, 7, 8, 11, 12].contains(&length),
         Symbology::Ean13 => [12, 13].contains(&length),
         Symbology::Ean8 => [7, 8].contains(&length),
-        Symbology::Code39 => 1 <= length && length <= 255,
+        Symbology::Code39 | Symbology::Code93 => 1 <= length && length <= 255,
         Symbology::Itf => 2 <= length && length <= 254 && length % 2 == 0,
-        Symbology::Codabar | Symbology::Code128 => 2 <= length && length <= 255,
+        Symbology::Codabar | Symbology::Code128 | Symbology::Gs1Code128 => {
+            2 <= length && length <= 255
+        }
     }
 }
 
@@ -337,6 +380,8 @@ fn allows(symbology: Symbology, length: usize, place: usize, byte: u8) -> bool {
         (Symbology::Code128, 0) => b"{",
         (Symbology::Code128, 1) => b"ABC",
         (Symbology::Code128, _) => return byte <= 127,
+        (Symbology::Code93 | Symbology::Gs1Code128, _) => return byte <= 127,
+        (Symbology::UpcE, 0) if length != 6 => b"0",
         _ => b"0123456789",
     };
     allowed.contains(&byte)

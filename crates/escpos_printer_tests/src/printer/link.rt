@@ -51,7 +51,7 @@ fn serve_links(rt: HostRuntime) {
         ),
         (
             ONLINE,
-            (b"\x1B@\x1B$", 100, 100),
+            (b"\x1B@\x1B&", 100, 100),
             (how_served(4, 3, 0, LinkEnd::Fault { why }), b""),
         ),
         (

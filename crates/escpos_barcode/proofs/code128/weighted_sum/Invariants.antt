@@ -6,5 +6,5 @@ use Rattle.escpos_barcode.proofs.code128.weighted_sum.Given as goal
 abbrev pub invariant-loop-place : goal.invariant-loop-place
 invariant-loop-place l = record {
   whole : l.start + weighted 1 l.values ≡ l.sum + weighted (l.place + 1) (drop l.place l.values);
-  small : l.sum ≤ 255 + 65280 * l.place;
+  small : l.sum ≤ 255 + 261120 * l.place;
 }

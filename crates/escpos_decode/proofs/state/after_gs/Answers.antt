@@ -1,9 +1,16 @@
 use Rattle.std.proofs.Common.{◌∷◌, [], refl}
 use Rattle.escpos_decode.specs.declared.state.State.TheVariants as state
+use Rattle.escpos_command.specs.declared.parameter.position.PositionKind.TheVariants as position
 use Rattle.escpos_decode.specs.declared.one_parameter.OneParameter.TheVariants as letter
 use Rattle.escpos_command.proofs.TableTree.{at_form}
 use Rattle.escpos_decode.proofs.Letters.{moves}
 use Rattle.escpos_decode.proofs.state.after_gs.Goals as goal
+
+pub returns-in-76 : goal.returns-in-76
+returns-in-76 c = λ read. (moves state.Gs (state.PositionLow position.LeftMargin) read c.args.byte 76 c.in-76.is refl refl (at_form (29 ∷ 76 ∷ []) refl) refl refl, refl)
+
+pub returns-in-87 : goal.returns-in-87
+returns-in-87 c = λ read. (moves state.Gs (state.PositionLow position.AreaWidth) read c.args.byte 87 c.in-87.is refl refl (at_form (29 ∷ 87 ∷ []) refl) refl refl, refl)
 
 pub returns-in-40 : goal.returns-in-40
 returns-in-40 c = λ read. (moves state.Gs state.Bracket read c.args.byte 40 c.in-40.is refl refl refl refl refl, refl)

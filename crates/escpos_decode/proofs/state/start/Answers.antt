@@ -7,6 +7,9 @@ use Rattle.std.proofs.Common.{◌∙◌, sym, ap}
 use Rattle.escpos_command.specs.Tree.{leaf}
 use Rattle.escpos_decode.proofs.state.start.Goals as goal
 
+pub returns-in-9 : goal.returns-in-9
+returns-in-9 c = λ read. (ends state.Start read c.args.byte 9 kind.Tab c.in-9.is (at_start read) (at_form (9 ∷ []) refl), refl)
+
 pub returns-in-10 : goal.returns-in-10
 returns-in-10 c = λ read. (ends state.Start read c.args.byte 10 kind.LineFeed c.in-10.is (at_start read) (at_form (10 ∷ []) refl), refl)
 

@@ -13,8 +13,8 @@ overflow_sub-given c =
     let digits = subst (λ v. all_digits v ≡ true) (sym c.content-content.ensures.content) (digits_of_bars bars c.content-content.ensures.range has_bars) in
     each_is_large content (length content - 1) digits (let some = some_digits bars.symbology (length content) has in omega arith)
 
-pub check_digit-right-requires : goal.check_digit-right-requires
-check_digit-right-requires c =
+pub check_digit_of-right-requires : goal.check_digit_of-right-requires
+check_digit_of-right-requires c =
     let bars = c.args.bars.now in
     let content = c.content-content.result.now in
     let has : has_check_digit bars.symbology (length content) ≡ true = ap (λ s. has_check_digit s (length content)) (sym c.symbology.ensures) ∙ sym c.has_check_digit.ensures ∙ c.if-not-has_check_digit.false in

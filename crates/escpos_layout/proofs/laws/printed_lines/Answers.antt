@@ -11,5 +11,6 @@ returns c = printed_lines (record {
   typed_text = c.typed_text.ensures;
   feed_prints = c.line_feeds.ensures.prints;
   feed_empties = c.line_feeds.ensures.empties;
+  feed_follows = c.line_feeds.ensures.follows;
   feed_same_lines = c.line_feeds.ensures.same_lines;
 })

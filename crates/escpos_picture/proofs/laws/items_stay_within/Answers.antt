@@ -1,4 +1,4 @@
-use Rattle.escpos_picture.proofs.Within.{rows_within, underlines_within, rasters_within, bars_within, labels_within, cuts_within, across, turned}
+use Rattle.escpos_picture.proofs.Within.{rows_within, underlines_within, rasters_within, bars_within, labels_within, cuts_within, across, turned, turned_on_line}
 use Rattle.escpos_picture.proofs.laws.items_stay_within.Goals as goal
 
 pub returns-clause-rows_within : goal.returns-clause-rows_within
@@ -24,3 +24,6 @@ returns-clause-across c = across
 
 pub returns-clause-turned : goal.returns-clause-turned
 returns-clause-turned c = turned
+
+pub returns-clause-turned_on_line : goal.returns-clause-turned_on_line
+returns-clause-turned_on_line c = turned_on_line

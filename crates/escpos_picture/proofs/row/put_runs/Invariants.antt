@@ -9,7 +9,8 @@ abbrev pub invariant-loop-rest : goal.invariant-loop-rest
 invariant-loop-rest g l = record {
   so_far : DrawnTo (passage (g.W.ByteOut.written l.fn.writer) (g.W.ByteOut.written l.writer) (g.W.ByteOut.failed l.fn.writer) (g.W.ByteOut.failed l.writer))
       l.fn.gather l.gather (runs_drawing l.x (runs l.rest)) (runs_drawing 0 (runs l.cells));
-  wide : l.x + 100000 * length l.rest ≤ 100000 * length l.cells;
+  wide : l.x + 100000 * length l.rest ≤ 65535 + 100000 * length l.cells;
+  fewer : length l.rest ≤ length l.cells;
 }
 
 abbrev pub decreases-loop-rest : goal.decreases-loop-rest

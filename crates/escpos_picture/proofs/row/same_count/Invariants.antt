@@ -1,4 +1,4 @@
--- The cells so far all count, and those that are left are counted from the style of the last.
+-- The cells so far all join, and those that are left are counted from the style of the last.
 use Rattle.std.proofs.Common.{◌≡◌, ◌+◌, drop}
 use Rattle.escpos_picture.specs.Rows.{same_count}
 use Rattle.escpos_picture.proofs.row.same_count.Given as goal

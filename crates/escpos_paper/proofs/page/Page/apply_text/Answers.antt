@@ -8,16 +8,20 @@ use Rattle.escpos_command.proofs.Readings.{all_append}
 use Rattle.escpos_command.proofs.Texts.{characters_in_range}
 use Rattle.escpos_paper.specs.Page.{PageView}
 use Rattle.escpos_paper.specs.Torn.{below}
-use Rattle.escpos_paper.proofs.Applied.{width_of, sheet_steps, steps_below}
+use Rattle.escpos_paper.proofs.Applied.{height_of, width_of, sheet_steps, steps_below}
 use Rattle.escpos_paper.proofs.page.Page.apply_text.Goals as goal
 
 pub put_text-requires-clause-visible : goal.put_text-requires-clause-visible
-put_text-requires-clause-visible c =
-    (width_of c.self.invariant.line_dots _ c.self.invariant.kept c.self.invariant.commands c.self.invariant.page_is).least
+put_text-requires-clause-visible c = (
+  (width_of c.self.invariant.line_dots _ c.self.invariant.kept c.self.invariant.commands c.self.invariant.page_is).least,
+  (height_of c.self.invariant.line_dots _ c.self.invariant.kept c.self.invariant.commands c.self.invariant.page_is).least,
+)
 
 pub put_text-requires-clause-narrow : goal.put_text-requires-clause-narrow
-put_text-requires-clause-narrow c =
-    (width_of c.self.invariant.line_dots _ c.self.invariant.kept c.self.invariant.commands c.self.invariant.page_is).most
+put_text-requires-clause-narrow c = (
+  (width_of c.self.invariant.line_dots _ c.self.invariant.kept c.self.invariant.commands c.self.invariant.page_is).most,
+  (height_of c.self.invariant.line_dots _ c.self.invariant.kept c.self.invariant.commands c.self.invariant.page_is).most,
+)
 
 pub invariant_of-self : goal.invariant_of-self
 invariant_of-self c =

@@ -2,8 +2,14 @@
 use Rattle.std.proofs.Common.{[], ◌∙◌, ap}
 use Rattle.escpos_paper.specs.Steps.{sheet_on}
 use Rattle.escpos_paper.proofs.Bare.{bare_is_left}
-use Rattle.escpos_paper.proofs.TextSteps.{with_text}
+use Rattle.escpos_paper.specs.declared.item.Item.{Item}
+use Rattle.escpos_paper.specs.Page.{Sheet}
+use Rattle.std.proofs.Common.{List}
 use Rattle.escpos_paper.proofs.page.Page.tear_off.Goals as goal
+
+-- The sheet with these items.
+abbrev with_items : Sheet → List Item → Sheet
+with_items sheet items = record sheet { items = items }
 
 pub invariant_of-self : goal.invariant_of-self
 invariant_of-self c =
@@ -15,5 +21,5 @@ invariant_of-self c =
       kept = [];
       commands = other.commands;
       in_range = other.in_range;
-      page_is = ap (λ items. with_text (sheet_on paper) items paper.line) c.clear.ensures.items ∙ other.left;
+      page_is = ap (λ items. with_items (sheet_on paper) items) c.clear.ensures.items ∙ other.left;
     }
