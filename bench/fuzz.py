@@ -44,6 +44,7 @@ WITH_BYTE = {
     "status": (b"\x10\x04", range(1, 5)),
     "qrsize": (b"\x1d(k\x03\x001C", range(1, 17)),
     "qrlevel": (b"\x1d(k\x03\x001E", range(48, 52)),
+    "graphicsprint": (b"\x1d(L\x02\x000", (2, 50)),
 }
 WITH_BYTES = {"cut": b"\x1dV", "pulse": b"\x1bp", "mark": b"\x1d(H\x06\x0000"}
 # Commands with a number of two bytes, the low one first, and numbers that they often have.
@@ -110,6 +111,25 @@ def store(data):
     return b"\x1d(k" + (len(data) + 3).to_bytes(2, "little") + b"1P0" + data
 
 
+def graphics(form, across, down, x, y, dots):
+    """Returns what stores graphics, with a length of so many bytes: of x dots to a row, and y rows."""
+    front = b"\x1d(L" if form == 2 else b"\x1d8L"
+    return front + (10 + len(dots)).to_bytes(form, "little") + b"0p0" + bytes([across, down]) + b"1" + x.to_bytes(2, "little") + y.to_bytes(2, "little") + dots
+
+
+def sent_dots(place, stream):
+    """Returns the dots of graphics that stand at this place of a stream: as many bytes as the length counts."""
+    form = 2 if stream[place + 1 : place + 2] == b"(" else 4
+    count = int.from_bytes(stream[place + 3 : place + 3 + form], "little") - 10
+    return stream[place + 13 + form : place + 13 + form + count]
+
+
+def size_of(line):
+    """Returns the bytes in a row and the rows of graphics in a line of a listing."""
+    *_, x, y = map(int, line.split(" ")[2:])
+    return (x + 7) // 8, y
+
+
 def qr_model(number):
     """Returns what sets the model of QR codes to this byte."""
     return b"\x1d(k\x04\x001A" + bytes([number, 0])
@@ -127,7 +147,7 @@ def upca_digits(digits):
 
 def some_command(pick):
     """Returns the bytes of a command, and its line in a listing without the place."""
-    name = pick.choice(("char",) * 20 + ("lf",) * 5 + (*PLAIN, *WITH_BYTE, *WITH_BYTES, *WITH_NUMBER_OF_TWO_BYTES, "tabstops", *("bars", "raster", "qrstore", "qrprint") * 2, "qrmodel"))
+    name = pick.choice(("char",) * 20 + ("lf",) * 5 + (*PLAIN, *WITH_BYTE, *WITH_BYTES, *WITH_NUMBER_OF_TWO_BYTES, "tabstops", *("bars", "raster", "graphics", "graphicsprint", "qrstore", "qrprint") * 2, "qrmodel"))
     if name in PLAIN:
         return PLAIN[name], name
     if name in WITH_BYTE and (name != "cut" or pick.randrange(2)):
@@ -153,6 +173,12 @@ def some_command(pick):
         scale, x, y = pick.choice(SCALES), pick.choice((1, 2, 3, 128)), pick.choice((1, 2, 5, 5, 300))
         header = b"\x1dv0" + bytes([scale, x, 0, y % 256, y // 256])
         return header + pick.randbytes(x * y), f"raster {scale:02x} {x} {y}"
+    if name == "graphics":
+        form, across, down = pick.choice((2, 4)), pick.choice((1, 2)), pick.choice((1, 2))
+        x, y = pick.choice((1, 7, 8, 9, 12, 512, 1023, 1024, pick.randint(1, 1024))), pick.choice((1, 2, 5, 300, pick.randint(1, 500)))
+        right, most = (x + 7) // 8 * y, 65525 if form == 2 else 524160
+        count = pick.choice((right,) * 8 + (right + 1, right - 1, 1, pick.randint(1, 3 * right)))
+        return graphics(form, across, down, x, y, pick.randbytes(max(1, min(count, most)))), f"graphics {across:02x} {down:02x} {x} {y}"
     if name == "qrstore":
         data = pick.randbytes(pick.choice((1, 2, 20, 20, 252, 253, 254, MOST_QR_DATA)))
         return store(data), f"qrstore {data.hex()}"
@@ -204,6 +230,13 @@ def respelled(line, stream):
         hold(int(scale, 16) in SCALES and 1 <= int(x) <= 128 and 1 <= int(y) <= 4095, "a raster that isn't in the table:", line)
         header = b"\x1dv0" + bytes([int(scale, 16), int(x), 0, int(y) % 256, int(y) // 256])
         return header + stream[int(place) + 8 : int(place) + 8 + int(x) * int(y)]
+    if name == "graphics":
+        across, down, x, y = values.split(" ")
+        hold(across in ("01", "02") and down in ("01", "02") and 1 <= int(x) <= 1024 and 1 <= int(y) <= 4095, "graphics that aren't in the table:", line)
+        form = 2 if stream[int(place) + 1 : int(place) + 2] == b"(" else 4
+        dots = sent_dots(int(place), stream)
+        hold(dots, "graphics without dots:", line)
+        return graphics(form, int(across), int(down), int(x), int(y), dots)
     values = bytes.fromhex(values)
     if name == "qrstore":
         hold(1 <= len(values) <= MOST_QR_DATA, "data that is too short or too long:", line)
@@ -230,7 +263,10 @@ def reason(half):
         return 5
     if half[:3] == b"\x1d(k" and len(half) in (5, 6):
         return 2
-    return 1 if not half else 2 if len(half) == 1 or half in (b"\x1d(", b"\x1dv", b"\x1bc") else 3
+    if half[:3] in (b"\x1d(L", b"\x1d8L"):
+        after = len(half) - (5 if half[1:2] == b"(" else 7)
+        return 2 if after in (0, 1) else 5 if after > 5 else 3
+    return 1 if not half else 2 if len(half) == 1 or half in (b"\x1d(", b"\x1d8", b"\x1dv", b"\x1bc") else 3
 
 
 def try_listing(stream, status, lines):
@@ -274,6 +310,26 @@ def qr_codes_of(lines):
             data = value
         elif name == "qrprint" and data is not None:
             found.append(f"{model} {size} {level} {shown(data)}")
+    return found
+
+
+def pictures_of(lines, stream):
+    """Returns the rasters and graphics that a listing prints, without their alignment: scale, size in bytes and rows, and dots."""
+    stored, found = None, []
+    for line in lines:
+        place, name, *values = line.split(" ")
+        if name == "init":
+            stored = None
+        elif name == "raster":
+            scale, x, y = int(values[0], 16) % 48, int(values[1]), int(values[2])
+            found.append(f"{SCALE_WORDS.split()[scale]} {x} {y} {respelled(line, stream)[8:].hex()}")
+        elif name == "graphics":
+            (row, y), dots = size_of(line), sent_dots(int(place), stream)
+            scale = SCALE_WORDS.split()[int(values[0]) - 1 + 2 * (int(values[1]) - 1)]
+            stored = f"{scale} {row} {y} {dots.hex()}" if len(dots) == row * y else stored
+        elif name == "graphicsprint" and stored is not None:
+            found.append(stored)
+            stored = None
     return found
 
 
@@ -451,11 +507,13 @@ def number_of(text):
 REAL_TIME = re.compile(rb"\x10(?:\x04[\x01-\x08]|\x05[\x00-\x02]|\x14[\x01-\x03\x06-\x08])")
 
 
-def left_out(spellings):
-    """Returns the place of the first command whose code isn't printed on a line of 512 dots, or nothing."""
-    module, size, level, stored = 3, 3, "L", ""
+def all_left_out(spellings):
+    """Gives the place of each command whose code isn't printed on a line of 512 dots."""
+    module, size, level, stored = 3, 3, "L", None
     for place, spelling in enumerate(spellings):
-        if spelling.startswith(WITH_BYTE["barwidth"][0]):
+        if spelling == PLAIN["init"]:
+            module, size, level, stored = 3, 3, "L", None
+        elif spelling.startswith(WITH_BYTE["barwidth"][0]):
             module = spelling[-1]
         elif spelling.startswith(WITH_BYTE["qrsize"][0]):
             size = spelling[-1]
@@ -464,15 +522,18 @@ def left_out(spellings):
         elif spelling[:3] == b"\x1d(k" and spelling[5:8] == b"1P0":
             stored = spelling[8:].decode("latin-1")
         elif spelling == PLAIN["qrprint"]:
-            if not 0 < size * (qr_side(stored, level) or 0) <= 512:
-                return place
+            if stored is not None and not 0 < size * (qr_side(stored, level) or 0) <= 512:
+                yield place
         elif spelling[:2] == b"\x1dk":
-            number, content = spelling[2] - 65, spelling[4:].decode("latin-1")
-            if len(content) < FULL_LENGTHS.get(number, 0) or number == 1 and len(content) in (6, 7, 11):
-                content += str(check_digit(upca_digits(spelling[4:]) if number == 1 else spelling[4:]))
-            if not widths(next(kind for kind, its in KINDS.items() if its == number), content, module):
-                return place
-    return None
+            number, content = spelling[2] % 65, spelling[4:] if spelling[2] >= 65 else spelling[3:-1]
+            digit = str(check_digit(upca_digits(content) if number == 1 else content)) if len(content) < FULL_LENGTHS.get(number, 0) or number == 1 and len(content) in (6, 7, 11) else ""
+            if not widths(next(kind for kind, its in KINDS.items() if its == number), content.decode("latin-1") + digit, module):
+                yield place
+
+
+def left_out(spellings):
+    """Returns the place of the first of them, or nothing."""
+    return next(all_left_out(spellings), None)
 
 
 def commands_of(text):

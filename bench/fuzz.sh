@@ -72,6 +72,8 @@ def try_stream(pick):
     hold(render_status == status and (not status or items.pop() == lines[-1]), "`render` ends otherwise than `check`")
     codes = [re.sub(r"^(margin \d+ )?(width \d+ )?", "", item.split(" ", 2)[2]) for item in items if item.startswith("qr ")]
     hold(codes == qr_codes_of(lines[:-1]), "the QR codes aren't those that are stored")
+    pictures = [re.sub(r"^(margin \d+ )?(width \d+ )?", "", item.split(" ", 2)[2]) for item in items if item.startswith("raster ")]
+    hold(pictures == pictures_of([line for line in lines[:-1] if not line.startswith("note ")], stream), "the rasters aren't those that are sent or stored")
     some_items = paper_of(some)
     hold(items[: len(some_items)] == some_items, "the paper of a front isn't a front of the paper")
     for item in items:

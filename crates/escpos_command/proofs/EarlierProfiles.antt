@@ -23,6 +23,10 @@ use Rattle.escpos_command.specs.declared.parameter.position.PositionKind.TheVari
 use Rattle.escpos_command.specs.Prefixes.{apart}
 use Rattle.escpos_command.specs.Rasters.{picture}
 use Rattle.escpos_command.specs.SettingTable.{table, number, row_at, row_for, row_prefix}
+use Rattle.escpos_command.specs.declared.graphics.GraphicsForm.{GraphicsForm}
+use Rattle.escpos_command.specs.declared.graphics.GraphicsForm.TheVariants.{Short, Long}
+use Rattle.escpos_command.specs.Graphics.{graphics_letters}
+use Rattle.escpos_command.proofs.GraphicsTree.{picture_of}
 use Rattle.escpos_command.specs.EarlierProfiles.{cut_since, symbology_since, prefix_of, prefix_since, since, in_profile, IsNew, prefix, rows}
 use Rattle.escpos_command.specs.Profiles.{ViableIn}
 use Rattle.escpos_command.proofs.Combinators.{and_left, and_right, same_number, number_itself, at_row}
@@ -57,7 +61,7 @@ formed =
     ∷ (ESC ∷ 0x6D ∷ [], 4)
     ∷ []
 
--- Those of positions and tab stops.
+-- Those of positions, tab stops and graphics.
 abbrev moving : Known
 moving =
     (HT ∷ [], 4)
@@ -66,6 +70,8 @@ moving =
     ∷ (GS ∷ 0x4C ∷ [], 4)
     ∷ (GS ∷ 0x57 ∷ [], 4)
     ∷ (ESC ∷ 0x44 ∷ [], 4)
+    ∷ (GS ∷ 0x28 ∷ 0x4C ∷ [], 4)
+    ∷ (GS ∷ 0x38 ∷ 0x4C ∷ [], 4)
     ∷ []
 
 abbrev of_rows : List Row → Known
@@ -173,9 +179,15 @@ not_low b more h k = let low : nat_lt b 0x20 ≡ true = k in let clash : true �
 
 -- ## Commands and their prefixes
 
+picture_spelled : (f : GraphicsForm) (across down width height : ℕ) (dots : List ℕ)
+    → Begins (graphics_letters f) (row (kind.GraphicsStore (picture_of f across down width height dots)))
+picture_spelled Short across down width height dots = (_, refl)
+picture_spelled Long across down width height dots = (_, refl)
+
 spelled_on : (c : Command) → Begins (prefix_of c) (row c)
 spelled_on (kind.Position p) = (word_bytes p.1, spelled_position p.0 p.1)
 spelled_on (kind.Set s) = (option_to_list s.1, spelled_setting s.0 s.1)
+spelled_on (kind.GraphicsStore p) = picture_spelled p.head.form p.head.across p.head.down p.head.width p.head.height p.dots
 spelled_on _ = (_, refl)
 
 row_known : (rs : List Row) (i : ℕ) → i < length rs → Has (row_prefix (row_at rs i), (row_at rs i).since) (of_rows rs)
@@ -211,6 +223,10 @@ position_known at.Absolute = moving_known _ (inr (inl refl))
 position_known at.Relative = moving_known _ (inr (inr (inl refl)))
 position_known at.LeftMargin = moving_known _ (inr (inr (inr (inl refl))))
 position_known at.AreaWidth = moving_known _ (inr (inr (inr (inr (inl refl)))))
+
+graphics_known : (f : GraphicsForm) → Has (graphics_letters f, 4) known
+graphics_known Short = moving_known _ (inr (inr (inr (inr (inr (inr (inl refl)))))))
+graphics_known Long = moving_known _ (inr (inr (inr (inr (inr (inr (inr (inl refl))))))))
 
 known_a : (s : Symbology) → has_form A s ≡ true → Has (of_bars A s) barcodes_a
 known_a UpcA h = inl refl
@@ -261,6 +277,8 @@ known_to kind.QrPrint h = inl (has_earlier _ formed others (inr (inr (inr (inr (
 known_to kind.Tab h = inl (moving_known _ (inl refl))
 known_to (kind.Position p) h = inl (position_known p.0)
 known_to (kind.TabStops columns) h = inl (moving_known _ (inr (inr (inr (inr (inr (inl refl)))))))
+known_to (kind.GraphicsStore p) h = inl (graphics_known p.head.form)
+known_to (kind.GraphicsPrint fn) h = inl (graphics_known Short)
 known_to (kind.Cut c) h =
     inl (has_later _ formed others
     (has_later _ moving (of_modes cut_modes ++ (barcodes ++ of_rows table))
@@ -336,7 +354,13 @@ moving_witnesses = (
           (kind.Position (at.AreaWidth, 0), refl, refl, refl),
           (
             (kind.TabStops [], refl, refl, refl),
-            tt,
+            (
+              (kind.GraphicsPrint 2, refl, refl, refl),
+              (
+                (kind.GraphicsStore (picture_of Long 1 1 1 1 (0 ∷ [])), refl, refl, refl),
+                tt,
+              ),
+            ),
           ),
         ),
       ),

@@ -4,6 +4,7 @@ pub mod Combinators
 pub mod BarcodeTree
 pub mod RasterTree
 pub mod QrTree
+pub mod GraphicsTree
 pub mod PositionTree
 pub mod Planting
 pub mod SettingRows

@@ -6,9 +6,9 @@ use Rattle.std.specs.Option.{unwrap_or}
 use Rattle.std.proofs.Math.Seq.{append_snoc}
 use Rattle.escpos_command.specs.declared.command.Command.{Command}
 use Rattle.escpos_command.specs.declared.command.Command.TheVariants as kind
-use Rattle.escpos_command.specs.Settings.{is_init, stored, sets_stored}
+use Rattle.escpos_command.specs.Settings.{is_init, sets_graphics, stored, stored_graphics, sets_stored}
 use Rattle.escpos_command.specs.Text.{text, text_after, ends_line, ends_later, characters, is_some}
-use Rattle.escpos_command.proofs.Settings.{or_false, or_true, stored-snoc}
+use Rattle.escpos_command.proofs.Settings.{graphics-snoc, or_false, or_true, stored-snoc}
 
 or_assoc : (a b c : Bool) → ((a || b) || c) ≡ (a || (b || c))
 or_assoc true b c = refl
@@ -46,21 +46,29 @@ text-snoc cs c = text_by [] cs c (ends_line cs c) refl
 
 -- ## Commands after others
 
-one_more_stored : (before other : List Command) (c : Command) → stored before ≡ stored other → stored (before ++ c ∷ []) ≡ stored (other ++ c ∷ [])
-one_more_stored before other c e =
-    stored-snoc before c ∙ ap (λ s. cond (is_init c) None (unwrap_or (sets_stored c) s)) e ∙ sym (stored-snoc other c)
+-- Commands that have stored the same.
+pub record StoreTheSame (before other : List Command) : Type 0 where
+  pub codes : stored before ≡ stored other
+  pub graphics : stored_graphics before ≡ stored_graphics other
 
-same_end : (before other : List Command) (c : Command) → stored before ≡ stored other → ends_line before c ≡ ends_line other c
-same_end before other kind.QrPrint e = ap is_some e
+one_more_stored : (before other : List Command) (c : Command) → StoreTheSame before other → StoreTheSame (before ++ c ∷ []) (other ++ c ∷ [])
+one_more_stored before other c e = record {
+  codes = stored-snoc before c ∙ ap (λ s. cond (is_init c) None (unwrap_or (sets_stored c) s)) e.codes ∙ sym (stored-snoc other c);
+  graphics = graphics-snoc before c ∙ ap (λ s. cond (is_init c) None (unwrap_or (sets_graphics c) s)) e.graphics ∙ sym (graphics-snoc other c);
+}
+
+same_end : (before other : List Command) (c : Command) → StoreTheSame before other → ends_line before c ≡ ends_line other c
+same_end before other kind.QrPrint e = ap is_some e.codes
+same_end before other (kind.GraphicsPrint fn) e = ap is_some e.graphics
 same_end before other c e = refl
 
-same_end_later : (before other cs : List Command) → stored before ≡ stored other → ends_later before cs ≡ ends_later other cs
+same_end_later : (before other cs : List Command) → StoreTheSame before other → ends_later before cs ≡ ends_later other cs
 same_end_later before other [] e = refl
 same_end_later before other (c ∷ cs) e =
     ap (λ b. b || ends_later (before ++ c ∷ []) cs) (same_end before other c e)
     ∙ ap (λ b. ends_line other c || b) (same_end_later (before ++ c ∷ []) (other ++ c ∷ []) cs (one_more_stored before other c e))
 
-pub same_text : (before other cs : List Command) → stored before ≡ stored other → text_after before cs ≡ text_after other cs
+pub same_text : (before other cs : List Command) → StoreTheSame before other → text_after before cs ≡ text_after other cs
 same_text before other [] e = refl
 same_text before other (c ∷ cs) e =
     let more = one_more_stored before other c e in

@@ -6,7 +6,7 @@ use Rattle.std.specs.Option.{unwrap_or}
 use Rattle.std.proofs.lemmas.List.Folds.{list_any-append}
 use Rattle.std.proofs.lemmas.List.Elements.{filter_map-append}
 use Rattle.escpos_command.specs.declared.command.Command.{Command}
-use Rattle.escpos_command.specs.Settings.{is_init, after_init, last_or, setting, stored, sets_stored}
+use Rattle.escpos_command.specs.Settings.{sets_graphics, stored_graphics, is_init, after_init, last_or, setting, stored, sets_stored}
 
 -- ## Tests
 
@@ -65,3 +65,6 @@ setting-snoc sets start cs c = setting_by sets start cs c (is_init c) refl
 
 pub stored-snoc : (cs : List Command) (c : Command) → stored (cs ++ c ∷ []) ≡ cond (is_init c) None (unwrap_or (sets_stored c) (stored cs))
 stored-snoc cs c = setting-snoc sets_stored None cs c
+
+pub graphics-snoc : (cs : List Command) (c : Command) → stored_graphics (cs ++ c ∷ []) ≡ cond (is_init c) None (unwrap_or (sets_graphics c) (stored_graphics cs))
+graphics-snoc cs c = setting-snoc sets_graphics None cs c

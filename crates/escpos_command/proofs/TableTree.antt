@@ -16,11 +16,15 @@ use Rattle.escpos_command.specs.declared.parameter.position.PositionKind.{Positi
 use Rattle.escpos_command.specs.declared.parameter.position.PositionKind.TheVariants as at
 use Rattle.escpos_command.specs.Positions.{position_prefix, word_bytes}
 use Rattle.escpos_command.specs.Prefixes.{Forms, apart, part_from, has_form, tree_after, rows_part_from}
-use Rattle.escpos_command.specs.Tree.{Tree, leaf, dead, node, walk, planted, all_planted, one, passing, character, cut, mark, position, tab_stops, pulse, forms, setting_tree, settings, grammar, counted}
+use Rattle.escpos_command.specs.Tree.{Tree, leaf, dead, node, walk, planted, all_planted, one, passing, character, cut, mark, position, tab_stops, graphics, long_graphics, pulse, forms, setting_tree, settings, grammar, counted}
 use Rattle.escpos_command.proofs.BarcodeTree.{leads_barcode, good_barcodes}
 use Rattle.escpos_command.proofs.RasterTree.{leads_raster, good_raster}
 use Rattle.escpos_command.proofs.PositionTree.{leads_position, leads_stops, good_position, good_stops, live_stops, spelled_position}
 use Rattle.escpos_command.proofs.QrTree.{leads_model, leads_store, good_qr}
+use Rattle.escpos_command.proofs.GraphicsTree.{picture_of, leads_long, leads_print, leads_short, good_graphics, good_long_graphics}
+use Rattle.escpos_command.specs.declared.graphics.GraphicsForm.{GraphicsForm}
+use Rattle.escpos_command.specs.declared.graphics.GraphicsForm.TheVariants.{Short, Long}
+use Rattle.escpos_command.specs.Graphics.{is_graphics}
 use Rattle.escpos_command.proofs.Walks.{Good, IsLive, walk-nil}
 use Rattle.escpos_command.proofs.Combinators.{good_choice, good_passing, good_one, good_these, good_counted, walk-counted, walk-one, live_counted, all_from_all, and_left, and_right, both, same_number, at_row}
 use Rattle.escpos_command.proofs.Planting.{all_elsewhere, all_there, all_good}
@@ -144,6 +148,11 @@ leads_place at.Relative n h = form (ESC ∷ 0x5C ∷ []) (word_bytes n) refl ∙
 leads_place at.LeftMargin n h = form (GS ∷ 0x4C ∷ []) (word_bytes n) refl ∙ leads_position at.LeftMargin n h
 leads_place at.AreaWidth n h = form (GS ∷ 0x57 ∷ []) (word_bytes n) refl ∙ leads_position at.AreaWidth n h
 
+leads_picture : (f : GraphicsForm) (across down width height : ℕ) (dots : List ℕ) → is_graphics (picture_of f across down width height dots) ≡ true
+    → walk grammar (row (kind.GraphicsStore (picture_of f across down width height dots))) ≡ leaf (kind.GraphicsStore (picture_of f across down width height dots))
+leads_picture Short across down width height dots h = form (GS ∷ 0x28 ∷ 0x4C ∷ []) _ refl ∙ leads_short across down width height dots h
+leads_picture Long across down width height dots h = form (GS ∷ 0x38 ∷ []) _ refl ∙ leads_long across down width height dots h
+
 pub leads : (c : Command) → IsCommand c → walk grammar (row c) ≡ leaf c
 leads (kind.Char b) h = leads_character b h
 leads kind.Tab h = form (HT ∷ []) [] refl
@@ -163,6 +172,8 @@ leads (kind.QrSize n) h = form (GS ∷ 0x28 ∷ 0x6B ∷ []) (0x03 ∷ 0x00 ∷ 
 leads (kind.QrLevel n) h = form (GS ∷ 0x28 ∷ 0x6B ∷ []) (0x03 ∷ 0x00 ∷ 0x31 ∷ 0x45 ∷ n ∷ []) refl ∙ walk-one is_qr_level kind.QrLevel n h
 leads (kind.QrStore stored) h = form (GS ∷ 0x28 ∷ 0x6B ∷ []) _ refl ∙ leads_store stored h
 leads kind.QrPrint h = form (GS ∷ 0x28 ∷ 0x6B ∷ []) (0x03 ∷ 0x00 ∷ 0x31 ∷ 0x51 ∷ 0x30 ∷ []) refl
+leads (kind.GraphicsStore p) h = leads_picture p.head.form p.head.across p.head.down p.head.width p.head.height p.dots h
+leads (kind.GraphicsPrint fn) h = form (GS ∷ 0x28 ∷ 0x4C ∷ []) (0x02 ∷ 0x00 ∷ 0x30 ∷ fn ∷ []) refl ∙ leads_print fn h
 leads (kind.Cut c) h =
     form (GS ∷ 0x56 ∷ []) _ refl
     ∙ ap (walk (cut c.0)) (append-nil (option_to_list c.1 ++ []) ∙ append-nil (option_to_list c.1)) ∙ leads_cut c.0 c.1 h
@@ -200,7 +211,7 @@ good_pulse =
     good_one (ESC ∷ 0x70 ∷ m ∷ on ∷ []) is_byte (λ off. kind.Pulse (m, on, off)) 0 refl
     (λ off second. at_row (kind.Pulse (m, on, off)) (both _ _ (both _ _ pin first) second))))
 
--- Those of positions and tab stops.
+-- Those of positions, tab stops and graphics.
 abbrev moving : Forms
 moving =
     (HT ∷ [], leaf kind.Tab)
@@ -209,6 +220,8 @@ moving =
     ∷ (GS ∷ 0x4C ∷ [], position at.LeftMargin)
     ∷ (GS ∷ 0x57 ∷ [], position at.AreaWidth)
     ∷ (ESC ∷ 0x44 ∷ [], tab_stops 32 0 [])
+    ∷ (GS ∷ 0x28 ∷ 0x4C ∷ [], graphics)
+    ∷ (GS ∷ 0x38 ∷ [], long_graphics)
     ∷ []
 
 good_moving : AllByRecursion (λ f. IsLive f.1 × Good f.0 f.1) moving
@@ -224,7 +237,13 @@ good_moving = (
           (tt, good_position at.AreaWidth),
           (
             (live_stops, good_stops),
-            tt,
+            (
+              (tt, good_graphics),
+              (
+                (tt, good_long_graphics),
+                tt,
+              ),
+            ),
           ),
         ),
       ),

@@ -10,15 +10,16 @@ use Rattle.escpos_command.specs.declared.command.Command.TheVariants as kind
 use Rattle.escpos_command.specs.declared.setting.SettingKind.{SettingKind}
 use Rattle.escpos_command.specs.declared.bars.Form.{Form}
 use Rattle.escpos_command.specs.declared.bars.Form.TheVariants.{A, B}
-use Rattle.escpos_command.specs.Parameters.{is_byte, is_character, is_status_kind, is_cut, is_old_cut, is_word, is_tab_stops, is_pulse, is_qr_model, is_qr_size, is_qr_level, is_mark_id}
+use Rattle.escpos_command.specs.Parameters.{is_byte, is_character, is_status_kind, is_cut, is_old_cut, is_word, is_tab_stops, is_pulse, is_qr_model, is_qr_size, is_qr_level, is_graphics_print, is_mark_id}
 use Rattle.escpos_command.specs.Barcodes.{Barcode, barcode_mode, is_barcode}
+use Rattle.escpos_command.specs.Graphics.{StoredPicture, counted_before, graphics_letters, is_graphics, length_bytes}
 use Rattle.escpos_command.specs.Positions.{position_prefix, word_bytes}
 use Rattle.escpos_command.specs.QrCodes.{is_qr_data}
 use Rattle.escpos_command.specs.Rasters.{Picture, is_raster}
 use Rattle.escpos_command.specs.SettingTable.{table, row_for, row_prefix, is_setting}
 
--- A line of the table: the fixed bytes, the parameter bytes that follow them, the content of a barcode, the dots of a raster,
--- the data of a QR code or the columns of tab stops, a suffix byte, and whether parameters and content are in range.
+-- A line of the table: the fixed bytes, the parameter bytes that follow them, the content of a barcode, the dots of a raster
+-- or of graphics, the data of a QR code or the columns of tab stops, a suffix byte, and whether parameters and content are in range.
 pub record Entry : Type 0 where
   pub prefix : List ℕ
   pub parameters : List ℕ
@@ -57,6 +58,19 @@ raster_entry raster = record {
   content = raster.dots;
   suffix = [];
   in_range = is_raster raster;
+}
+
+-- Function 112: the number of bytes that follow it, m, fn, the tone, the two factors, the colour, the size, the low byte of each number
+-- first, and the dots.
+abbrev pub graphics_entry : StoredPicture → Entry
+graphics_entry p = record {
+  prefix = graphics_letters p.head.form;
+  parameters =
+      length_bytes p.head.form (length p.dots + counted_before)
+      ++ 0x30 ∷ 0x70 ∷ 0x30 ∷ p.head.across ∷ p.head.down ∷ 0x31 ∷ word_bytes p.head.width ++ word_bytes p.head.height;
+  content = p.dots;
+  suffix = [];
+  in_range = is_graphics p;
 }
 
 -- GS ( k, function 65 of QR codes: the model, and 00.
@@ -104,6 +118,8 @@ entry_of (kind.TabStops columns) = tab_stops_entry columns  -- ESC D
 entry_of (kind.Pulse pulse) = entry (ESC ∷ 0x70 ∷ []) (pulse.0 ∷ pulse.1 ∷ pulse.2 ∷ []) (is_pulse pulse)  -- ESC p
 entry_of (kind.Bars bars) = barcode_entry bars  -- GS k, form A or B
 entry_of (kind.Raster raster) = raster_entry raster  -- GS v 0
+entry_of (kind.GraphicsStore graphics) = graphics_entry graphics  -- GS ( L or GS 8 L, function 112
+entry_of (kind.GraphicsPrint fn) = entry (GS ∷ 0x28 ∷ 0x4C ∷ 0x02 ∷ 0x00 ∷ 0x30 ∷ []) (fn ∷ []) (is_graphics_print fn)  -- GS ( L, function 50
 entry_of (kind.QrModel n) = qr_model_entry n  -- GS ( k, function 65
 entry_of (kind.QrSize n) = entry (GS ∷ 0x28 ∷ 0x6B ∷ 0x03 ∷ 0x00 ∷ 0x31 ∷ 0x43 ∷ []) (n ∷ []) (is_qr_size n)  -- GS ( k, function 67
 entry_of (kind.QrLevel n) = entry (GS ∷ 0x28 ∷ 0x6B ∷ 0x03 ∷ 0x00 ∷ 0x31 ∷ 0x45 ∷ []) (n ∷ []) (is_qr_level n)  -- GS ( k, function 69

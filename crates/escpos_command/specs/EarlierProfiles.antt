@@ -7,6 +7,7 @@ use Rattle.escpos_command.specs.declared.command.Command.{Command}
 use Rattle.escpos_command.specs.declared.command.Command.TheVariants as kind
 use Rattle.escpos_command.specs.Barcodes.{barcode_mode}
 use Rattle.escpos_command.specs.CommandTable.{IsCommand}
+use Rattle.escpos_command.specs.Graphics.{graphics_letters}
 use Rattle.escpos_command.specs.Parameters.{is_byte, is_one_of_four}
 use Rattle.escpos_command.specs.Positions.{position_prefix}
 use Rattle.escpos_command.specs.Rasters.{is_width}
@@ -27,6 +28,8 @@ prefix_of (kind.TabStops columns) = ESC ∷ 0x44 ∷ []
 prefix_of (kind.Pulse pulse) = ESC ∷ 0x70 ∷ []
 prefix_of (kind.Bars bars) = GS ∷ 0x6B ∷ barcode_mode bars.form bars.symbology ∷ []
 prefix_of (kind.Raster raster) = GS ∷ 0x76 ∷ []
+prefix_of (kind.GraphicsStore graphics) = graphics_letters graphics.head.form
+prefix_of (kind.GraphicsPrint fn) = GS ∷ 0x28 ∷ 0x4C ∷ []
 prefix_of (kind.QrModel n) = GS ∷ 0x28 ∷ 0x6B ∷ []
 prefix_of (kind.QrSize n) = GS ∷ 0x28 ∷ 0x6B ∷ []
 prefix_of (kind.QrLevel n) = GS ∷ 0x28 ∷ 0x6B ∷ []
@@ -61,6 +64,8 @@ prefix_since (kind.QrStore stored) = 3
 prefix_since kind.QrPrint = 3
 prefix_since (kind.AutomaticStatus n) = 4
 prefix_since (kind.OldCut b) = 4
+prefix_since (kind.GraphicsStore graphics) = 4
+prefix_since (kind.GraphicsPrint fn) = 4
 prefix_since kind.Tab = 4
 prefix_since (kind.Position p) = 4
 prefix_since (kind.TabStops columns) = 4

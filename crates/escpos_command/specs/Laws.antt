@@ -7,7 +7,7 @@ use Rattle.escpos_command.specs.Grammar.{Reads, FaultAt}
 
 -- The length of the longest spelling.
 abbrev pub longest_spelling : ℕ
-longest_spelling = 524168
+longest_spelling = 524177
 
 -- The list has a reading.
 abbrev pub IsRead : List ℕ → Type 0

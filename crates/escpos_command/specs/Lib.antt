@@ -3,6 +3,7 @@ pub mod LineWidths
 pub mod Meanings
 pub mod Barcodes
 pub mod Rasters
+pub mod Graphics
 pub mod QrCodes
 pub mod Positions
 pub mod Digits

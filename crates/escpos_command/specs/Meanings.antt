@@ -1,5 +1,5 @@
 -- What the bytes of parameters mean.
-use Rattle.std.specs.Prelude.{ℕ, ◌==◌, ◌+◌, ◌-◌, ◌/◌, ◌%◌, ◌^◌, ◌||◌, not, Bool, if◌then◌else◌}
+use Rattle.std.specs.Prelude.{ℕ, ◌==◌, ◌+◌, ◌-◌, ◌/◌, ◌%◌, ◌^◌, ◌&&◌, ◌||◌, not, Bool, if◌then◌else◌}
 use Rattle.escpos_command.specs.declared.parameter.choices.FontFace.{FontFace}
 use Rattle.escpos_command.specs.declared.parameter.choices.FontFace.TheVariants.{A, B}
 use Rattle.escpos_command.specs.declared.parameter.choices.Alignment.{Alignment}
@@ -31,6 +31,11 @@ hri_position_of c = if c == 0 then Nowhere else if c == 1 then Above else if c =
 -- How each dot of a raster is printed.
 abbrev pub scale_of : ℕ → Scale
 scale_of c = if c == 0 then scale.Normal else if c == 1 then scale.Wide else if c == 2 then scale.Tall else scale.Both
+
+-- The same by the factors of graphics, across and down.
+abbrev pub scale_by : ℕ → ℕ → Scale
+scale_by across down =
+    if across == 1 && down == 1 then scale.Normal else if down == 1 then scale.Wide else if across == 1 then scale.Tall else scale.Both
 
 -- ESC ! has the font in bit 0.
 abbrev pub face_of_mode : ℕ → FontFace

@@ -70,6 +70,14 @@ is_cut m (Some n) = is_feed_cut_mode m && is_byte n
 abbrev pub is_old_cut : ℕ → Bool
 is_old_cut b = b == 0x69 || b == 0x6D
 
+-- How often a dot of graphics is printed, across and down.
+abbrev pub is_graphics_factor : ℕ → Bool
+is_graphics_factor n = n == 1 || n == 2
+
+-- The functions by which graphics that are stored are printed: 50, sent as 2 or 50.
+abbrev pub is_graphics_print : ℕ → Bool
+is_graphics_print n = n == 2 || n == 50
+
 -- Bytes that rise, from one that is greater than the number before them.
 abbrev pub rises_from : ℕ → List ℕ → Bool
 rises_from before [] = true

@@ -3,6 +3,7 @@ use Rattle.std.specs.Prelude.{ℕ, Bool, true, false, List, [], ◌∷◌, ◌++
 use Rattle.std.specs.List.{list_any}
 use Rattle.escpos_command.specs.declared.command.Command.{Command}
 use Rattle.escpos_command.specs.declared.command.Command.TheVariants as kind
+use Rattle.escpos_command.specs.Graphics.{StoredPicture, has_its_dots}
 
 abbrev pub is_init : Command → Bool
 is_init kind.Init = true
@@ -29,3 +30,13 @@ sets_stored _ = None
 
 abbrev pub stored : List Command → Option (List ℕ)
 stored cs = setting sets_stored None cs
+
+-- The graphics that are stored, if there are any: a print leaves none, and a store with fewer or more dots than its size says does
+-- nothing. (Reference: GS ( L and GS 8 L, functions 112 and 50.)
+abbrev pub sets_graphics : Command → Option (Option StoredPicture)
+sets_graphics (kind.GraphicsStore graphics) = if has_its_dots graphics then Some (Some graphics) else None
+sets_graphics (kind.GraphicsPrint fn) = Some None
+sets_graphics _ = None
+
+abbrev pub stored_graphics : List Command → Option StoredPicture
+stored_graphics cs = setting sets_graphics None cs

@@ -1,11 +1,12 @@
 -- The text of the line: the characters that no command has printed or dropped yet. (Reference: LF, ESC d,
--- ESC J, ESC @, ESC i, ESC m, GS k, GS v 0, GS V, GS ( k.)
+-- ESC J, ESC @, ESC i, ESC m, GS k, GS v 0, GS V, GS ( k, GS ( L.)
 use Rattle.std.specs.Prelude.{ℕ, ◌||◌, Bool, true, false, List, [], ◌∷◌, ◌++◌, Option, None, Some, if◌then◌else◌}
 use Rattle.escpos_command.specs.declared.command.Command.{Command}
 use Rattle.escpos_command.specs.declared.command.Command.TheVariants as kind
-use Rattle.escpos_command.specs.Settings.{stored}
+use Rattle.escpos_command.specs.Settings.{stored, stored_graphics}
 
--- After this command the line is empty: it prints the line or drops it. (QrPrint does so if data is stored.)
+-- After this command the line is empty: it prints the line or drops it. (QrPrint does so if data is stored, and GraphicsPrint if graphics
+-- are.)
 abbrev pub ends_text : Command → Bool
 ends_text kind.LineFeed = true
 ends_text (kind.FeedLines n) = true
@@ -16,6 +17,7 @@ ends_text (kind.Raster raster) = true
 ends_text (kind.Cut cut) = true
 ends_text (kind.OldCut b) = true
 ends_text kind.QrPrint = true
+ends_text (kind.GraphicsPrint fn) = true
 ends_text _ = false
 
 -- The character of a Char command, as a list of one; none for any other command.
@@ -28,9 +30,10 @@ is_some None = false
 is_some (Some x) = true
 
 -- Whether the line is empty after a command that comes after others. A QR code is printed, and the line before it, only if data
--- is stored; otherwise the command does nothing.
+-- is stored, and graphics only if some are; otherwise the command does nothing.
 abbrev pub ends_line : List Command → Command → Bool
 ends_line before kind.QrPrint = is_some (stored before)
+ends_line before (kind.GraphicsPrint fn) = is_some (stored_graphics before)
 ends_line before c = ends_text c
 
 -- Whether one of these commands, which come after others, ends the line.

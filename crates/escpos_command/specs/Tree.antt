@@ -8,10 +8,14 @@ use Rattle.escpos_command.specs.declared.command.Command.TheVariants as kind
 use Rattle.escpos_command.specs.declared.bars.Form.TheVariants.{A, B}
 use Rattle.escpos_command.specs.declared.bars.Symbology.{Symbology}
 use Rattle.escpos_command.specs.declared.bars.Symbology.TheVariants.{UpcA, UpcE, Ean13, Ean8, Code39, Itf, Codabar, Code93, Code128, Gs1Code128}
-use Rattle.escpos_command.specs.Parameters.{is_character, is_one_of_two, is_one_of_four, is_status_kind, is_feed_cut_mode, is_byte, is_mark_byte, is_qr_model, is_qr_size, is_qr_level}
+use Rattle.escpos_command.specs.Parameters.{is_character, is_one_of_two, is_one_of_four, is_status_kind, is_feed_cut_mode, is_byte, is_mark_byte, is_qr_model, is_qr_size, is_qr_level, is_graphics_factor}
 use Rattle.escpos_command.specs.Barcodes.{barcode, has_length, allows, is_digit, is_code39, is_codabar, is_codabar_end}
 use Rattle.escpos_command.specs.declared.parameter.position.PositionKind.{PositionKind}
 use Rattle.escpos_command.specs.declared.parameter.position.PositionKind.TheVariants as at
+use Rattle.escpos_command.specs.declared.graphics.GraphicsForm.{GraphicsForm}
+use Rattle.escpos_command.specs.declared.graphics.GraphicsForm.TheVariants.{Short, Long}
+use Rattle.escpos_command.specs.declared.graphics.GraphicsHead.{GraphicsHead}
+use Rattle.escpos_command.specs.Graphics.{stored_picture, counted_before, is_graphics_length, is_graphics_width, is_long_length, long_length}
 use Rattle.escpos_command.specs.Positions.{word_of}
 use Rattle.escpos_command.specs.QrCodes.{is_qr_length}
 use Rattle.escpos_command.specs.Rasters.{picture, is_width, is_height}
@@ -164,6 +168,78 @@ qr_high low = passing (is_qr_length low) (λ high. qr_code (low + 256 * high))
 abbrev pub qr : Tree
 qr = passing is_byte qr_high
 
+-- ## Graphics
+
+-- The dots of graphics, of which this many bytes are still to come.
+abbrev pub graphics_dots : GraphicsHead → ℕ → List ℕ → Tree
+graphics_dots head wanted read = counted wanted (λ place. is_byte) (λ dots. kind.GraphicsStore (stored_picture head dots)) read
+
+-- What stands before the dots.
+abbrev pub graphics_head : GraphicsForm → ℕ → ℕ → ℕ → ℕ → GraphicsHead
+graphics_head form across down width height = record { form = form; across = across; down = down; width = width; height = height }
+
+-- The width and the height, with the low byte of each first, of graphics whose length counts so many bytes of dots; then these dots.
+abbrev pub graphics_height_high : GraphicsForm → ℕ → ℕ → ℕ → ℕ → ℕ → Tree
+graphics_height_high form count across down width low =
+    passing (λ high. is_height (low + 256 * high)) (λ high. graphics_dots (graphics_head form across down width (low + 256 * high)) count [])
+
+abbrev pub graphics_height : GraphicsForm → ℕ → ℕ → ℕ → ℕ → Tree
+graphics_height form count across down width = passing is_byte (graphics_height_high form count across down width)
+
+abbrev pub graphics_width_high : GraphicsForm → ℕ → ℕ → ℕ → ℕ → Tree
+graphics_width_high form count across down low =
+    passing (λ high. is_graphics_width (low + 256 * high)) (λ high. graphics_height form count across down (low + 256 * high))
+
+abbrev pub graphics_width : GraphicsForm → ℕ → ℕ → ℕ → Tree
+graphics_width form count across down = passing is_byte (graphics_width_high form count across down)
+
+-- After the factors: the colour, which is the first.
+abbrev pub graphics_color : GraphicsForm → ℕ → ℕ → ℕ → Tree
+graphics_color form count across down = these (0x31 ∷ []) (graphics_width form count across down)
+
+abbrev pub graphics_down : GraphicsForm → ℕ → ℕ → Tree
+graphics_down form count across = passing is_graphics_factor (graphics_color form count across)
+
+abbrev pub graphics_across : GraphicsForm → ℕ → Tree
+graphics_across form count = passing is_graphics_factor (graphics_down form count)
+
+-- After function 112: the tone, which is monochrome.
+abbrev pub graphics_tone : GraphicsForm → ℕ → Tree
+graphics_tone form count = these (0x30 ∷ []) (graphics_across form count)
+
+-- The functions of graphics by fn, where n bytes come after the length.
+abbrev pub graphics_functions : GraphicsForm → ℕ → List (ℕ × Tree)
+graphics_functions form n =
+    (0x02, at_length n 2 (leaf (kind.GraphicsPrint 0x02)))
+    ∷ (0x32, at_length n 2 (leaf (kind.GraphicsPrint 0x32)))
+    ∷ (0x70, if n == 2 then dead else graphics_tone form (n - counted_before))
+    ∷ []
+
+abbrev pub graphics_function : GraphicsForm → ℕ → Tree
+graphics_function form n = node (branch (graphics_functions form n) none)
+
+-- After the length: m, which is 30.
+abbrev pub graphics_mode : GraphicsForm → ℕ → Tree
+graphics_mode form n = these (0x30 ∷ []) (graphics_function form n)
+
+-- GS ( L: the length, with its low byte first.
+abbrev pub graphics_high : ℕ → Tree
+graphics_high low = passing (λ high. is_byte high && is_graphics_length (low + 256 * high)) (λ high. graphics_mode Short (low + 256 * high))
+
+abbrev pub graphics : Tree
+graphics = passing is_byte graphics_high
+
+-- GS 8 L: a length of four bytes, of which the last is 0.
+abbrev pub long_third : ℕ → ℕ → Tree
+long_third first second =
+    passing (λ third. is_long_length (long_length first second third)) (λ third. these (0x00 ∷ []) (graphics_mode Long (long_length first second third)))
+
+abbrev pub long_second : ℕ → Tree
+long_second first = passing is_byte (long_third first)
+
+abbrev pub long_graphics : Tree
+long_graphics = these (0x4C ∷ []) (passing is_byte long_second)
+
 -- ## Barcodes
 
 -- The bytes of a symbology that allows the same bytes at all places.
@@ -263,6 +339,8 @@ forms =
     ∷ (GS ∷ 0x4C ∷ [], position at.LeftMargin)
     ∷ (GS ∷ 0x57 ∷ [], position at.AreaWidth)
     ∷ (ESC ∷ 0x44 ∷ [], tab_stops 32 0 [])
+    ∷ (GS ∷ 0x28 ∷ 0x4C ∷ [], graphics)
+    ∷ (GS ∷ 0x38 ∷ [], long_graphics)
     ∷ []
 
 -- What follows the prefix of a setting.

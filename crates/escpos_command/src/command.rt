@@ -7,16 +7,17 @@
 
 ghost use Rattle.std.specs.Prelude.{◌≡◌, ◌≤◌, ◌+◌, [], ◌∷◌, length, IsTrue, Some};
 ghost use Rattle.std.specs.Option.{SomeIff};
-ghost use Rattle.escpos_command.specs.CommandTable.{entry_of, barcode_entry, raster_entry, qr_model_entry, qr_store_entry, tab_stops_entry, set_to, IsCommand};
+ghost use Rattle.escpos_command.specs.CommandTable.{entry_of, barcode_entry, raster_entry, qr_model_entry, qr_store_entry, tab_stops_entry, graphics_entry, set_to, IsCommand};
 ghost use Rattle.escpos_command.specs.SettingTable.{table, is_setting};
 ghost use Rattle.escpos_command.specs.declared.command.Command.TheVariants as kind;
 
 use crate::bars::{Bars, Form};
 use crate::bytes::{CR, DLE, EOT, ESC, GS, HT, LF};
+use crate::graphics::{COUNTED_BEFORE, Graphics, GraphicsForm};
 use crate::mark::MarkId;
 use crate::parameter::{
-    Character, Cut, FeedLines, FeedUnits, OldCut, Position, Pulse, QrLevel, QrModel, QrSize,
-    Reporting, StatusKind, TabStops,
+    Character, Cut, FeedLines, FeedUnits, GraphicsFunction, OldCut, Position, Pulse, QrLevel,
+    QrModel, QrSize, Reporting, StatusKind, TabStops,
 };
 use crate::qr::QrData;
 use crate::raster::Raster;
@@ -53,6 +54,10 @@ pub enum Command {
     Bars(Bars),
     /// GS v 0: prints a raster. (Reference: GS v 0.)
     Raster(Raster),
+    /// GS ( L or GS 8 L, function 112: stores graphics, if they have as many bytes of dots as their size says. (Reference: GS ( L and GS 8 L.)
+    GraphicsStore(Graphics),
+    /// GS ( L, function 50: prints the graphics that are stored, and stores none. (Reference: GS ( L.)
+    GraphicsPrint(GraphicsFunction),
     /// GS ( k, function 65: sets the model of QR codes. (Reference: GS ( k.)
     QrModel(QrModel),
     /// GS ( k, function 67: sets the size of a module of QR codes. (Reference: GS ( k.)
@@ -76,24 +81,24 @@ pub enum Command {
     Mark(MarkId),
 }
 
-/// The bytes of a command in four parts, one after another. The bytes of a barcode, a raster or
-/// a QR code aren't copied.
+/// The bytes of a command in four parts, one after another. The bytes of a barcode, a raster, graphics
+/// or a QR code aren't copied.
 #[derive(Debug, Drop)]
 pub struct Parts<'a> {
     /// The fixed bytes that a command of this kind begins with; none for a character.
     pub prefix: &'static [u8],
-    /// The parameter bytes, at most 5.
-    pub parameters: ArrayVec<u8, 5>,
-    /// The content of a barcode, the dots of a raster, the data of a QR code or the columns of tab stops; none for all other commands.
+    /// The parameter bytes, at most 14.
+    pub parameters: ArrayVec<u8, 14>,
+    /// The content of a barcode, the dots of a raster or of graphics, the data of a QR code or the columns of tab stops; none for all other commands.
     pub content: &'a [u8],
     /// The byte 00 that ends a barcode of form A, the model of QR codes or tab stops; none for all other commands.
     pub suffix: &'static [u8],
 }
 
 /// The most bytes that fixed bytes and parameters have together.
-pub const LONGEST_PREFIX: usize = 11;
+pub const LONGEST_PREFIX: usize = 17;
 
-const _: () = prove!(LONGEST_PREFIX == 11);
+const _: () = prove!(LONGEST_PREFIX == 17);
 
 impl Command {
     /// The command that sets this to a parameter; `None` where the table of settings doesn't allow it.
@@ -137,6 +142,10 @@ impl Command {
             }
             Command::Bars(bars) => barcode(bars),
             Command::Raster(raster) => picture(raster),
+            Command::GraphicsStore(stored) => stored_picture(stored),
+            Command::GraphicsPrint(function) => {
+                with(&[GS, b'(', b'L', 2, 0, b'0'], function.byte())
+            }
             Command::QrModel(model) => qr_model(*model),
             Command::QrSize(size) => with(&[GS, b'(', b'k', 3, 0, b'1', b'C'], size.byte()),
             Command::QrLevel(level) => with(&[GS, b'(', b'k', 3, 0, b'1', b'E'], level.byte()),
@@ -176,7 +185,7 @@ fn with(prefix: &'static [u8], parameter: u8) -> Parts<'static>
 
 // Fixed bytes with some parameter bytes.
 fn with_all(prefix: &'static [u8], bytes: &[u8]) -> Parts<'static>
-    requires { length bytes.now ≤ 5 }
+    requires { length bytes.now ≤ 14 }
     ensures prefix { result.prefix.now ≡ prefix.now }
     ensures parameters { result.parameters.items ≡ bytes.now }
     ensures content { result.content.now ≡ [] }
@@ -308,5 +317,65 @@ fn picture(raster: &Raster) -> Parts<'_>
                 height_high,
             ],
         )
+    }
+}
+
+// The parts of graphics.
+fn stored_picture(stored: &Graphics) -> Parts<'_>
+    ensures prefix { result.prefix.now ≡ (graphics_entry stored.now).prefix }
+    ensures parameters { result.parameters.items ≡ (graphics_entry stored.now).parameters }
+    ensures content { result.content.now ≡ stored.now.dots }
+    ensures suffix { result.suffix.now ≡ [] }
+    ensures few { length result.prefix.now + length result.parameters.items ≤ LONGEST_PREFIX }
+    ensures in_range { IsCommand (kind.GraphicsStore stored.now) }
+{
+    let head = stored.head();
+    let content = stored.dots();
+    let [first, second, third, fourth] = (content.len() as u32 + COUNTED_BEFORE).to_le_bytes();
+    let [width_low, width_high] = head.width.to_le_bytes();
+    let [height_low, height_high] = head.height.to_le_bytes();
+    match head.form {
+        GraphicsForm::Short => Parts {
+            content,
+            ..with_all(
+                &[GS, b'(', b'L'],
+                &[
+                    first,
+                    second,
+                    b'0',
+                    b'p',
+                    b'0',
+                    head.across,
+                    head.down,
+                    b'1',
+                    width_low,
+                    width_high,
+                    height_low,
+                    height_high,
+                ],
+            )
+        },
+        GraphicsForm::Long => Parts {
+            content,
+            ..with_all(
+                &[GS, b'8', b'L'],
+                &[
+                    first,
+                    second,
+                    third,
+                    fourth,
+                    b'0',
+                    b'p',
+                    b'0',
+                    head.across,
+                    head.down,
+                    b'1',
+                    width_low,
+                    width_high,
+                    height_low,
+                    height_high,
+                ],
+            )
+        },
     }
 }

@@ -24,7 +24,7 @@ ghost use Rattle.escpos_command.specs.Laws.{longest_spelling, IsRead, IsRefused}
 use crate::command::Command;
 use std::alloc::AllocError;
 
-/// Unique spellings: each command has one spelling, of at most 524,168 bytes; two commands with one spelling
+/// Unique spellings: each command has one spelling, of at most 524,177 bytes; two commands with one spelling
 /// are equal; no spelling begins another.
 pub fn unique_spellings()
     ensures spelled { (c : Command) → IsCommand c → Spells c (row c) × (length (row c) ≤ longest_spelling) }

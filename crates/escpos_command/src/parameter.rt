@@ -14,9 +14,9 @@ mod qr;
 pub use character::Character;
 pub use choices::{
     Alignment, Correction, FontFace, HriPosition, Scale, alignment_of, choice, face_of,
-    face_of_mode, has_bit, hri_position_of, magnified, scale_of, size_height, size_width,
+    face_of_mode, has_bit, hri_position_of, magnified, scale_by, scale_of, size_height, size_width,
     underline_of_mode,
 };
-pub use line::{Cut, FeedLines, FeedUnits, OldCut, Pulse, Reporting, StatusKind};
+pub use line::{Cut, FeedLines, FeedUnits, GraphicsFunction, OldCut, Pulse, Reporting, StatusKind};
 pub use position::{Position, PositionKind, TabStops};
 pub use qr::{QrLevel, QrModel, QrSize};

@@ -9,10 +9,10 @@ use crate::command::{Command, LONGEST_PREFIX};
 use escpos_io::{ByteOut, Device, Gather, Piece};
 use std::alloc::AllocError;
 
-/// The most bytes that a spelling has: a raster of 128 bytes by 4,095 rows.
-pub const LONGEST_SPELLING: usize = 524_168;
+/// The most bytes that a spelling has: graphics in the long form of 1,024 dots by 4,095 rows.
+pub const LONGEST_SPELLING: usize = 524_177;
 
-const _: () = prove!(LONGEST_SPELLING == 524_168);
+const _: () = prove!(LONGEST_SPELLING == 524_177);
 
 impl Command {
     /// Appends the spelling, the command's row of the command table, to `out`.
@@ -32,7 +32,7 @@ impl Command {
         Ok(())
     }
 
-    /// The number of bytes of the spelling, at most 524,168. Allocates nothing.
+    /// The number of bytes of the spelling, at most 524,177. Allocates nothing.
     pub fn spelled_len(&self) -> usize
         ensures length { result ≡ length (row self.now) }
         ensures most { result ≤ longest_spelling }

@@ -1,6 +1,6 @@
 -- A run of dots, taken at once.
-use Rattle.std.proofs.Common.{◌≡◌, ◌<◌, ◌≤◌, ◌⊎◌, ℕ, ◌-◌, List, [], ◌∷◌, ◌++◌, length, take, refl, sym, ◌∙◌, ap, append_assoc, append-nil, arith, zero, suc, true, Fits, w8}
-use Rattle.std.specs.Prelude.{slice_index_or, nat_lt}
+use Rattle.std.proofs.Common.{◌≡◌, ◌<◌, ◌≤◌, ◌⊎◌, ℕ, ◌-◌, List, [], ◌∷◌, ◌++◌, length, take, refl, sym, ◌∙◌, ap, append_assoc, append-nil, arith, zero, suc, true, false, Fits, w8}
+use Rattle.std.specs.Prelude.{slice_index_or, nat_lt, IsTrue}
 use Rattle.std.specs.List.{list_all}
 use Rattle.std.proofs.lemmas.Bool.{and_parts, and_from}
 use Rattle.std.proofs.lemmas.Bool.Decides.{nat_tests}
@@ -9,8 +9,8 @@ use Rattle.escpos_command.specs.Parameters.{is_byte}
 use Rattle.escpos_command.specs.Grammar.{Half, Reads}
 use Rattle.escpos_command.specs.CommandTable.{spell}
 use Rattle.escpos_command.specs.Tree.{Tree, dead, leaf, node, walk, grammar, counted}
-use Rattle.escpos_decode.specs.declared.state.State.TheVariants.{Dots}
-use Rattle.escpos_decode.specs.State.{step, prefix_of, tree_of, IsAt}
+use Rattle.escpos_decode.specs.declared.state.State.{State}
+use Rattle.escpos_decode.specs.State.{step, prefix_of, tree_of, holds, has_content, IsAt}
 use Rattle.escpos_decode.proofs.Steps.{counted_goes, byte_passes}
 use Rattle.escpos_command.proofs.Walks.{walk-nil}
 
@@ -45,20 +45,18 @@ walk-append (leaf c) (b ∷ p) q = refl
 walk-append (node next) [] q = refl
 walk-append (node next) (b ∷ p) q = walk-append (next b) p q
 
-some_left : (n k : ℕ) → k < n → nat_lt 0 (n - k) ≡ true
+pub some_left : (n k : ℕ) → k < n → nat_lt 0 (n - k) ≡ true
 some_left n k h = grind (arith, nat_tests)
 
--- The state after the run.
-pub at_run : (scale width height wanted : ℕ) (read ys now : List ℕ) → IsAt (Dots scale width height wanted) read → length ys < wanted → list_all is_byte ys ≡ true → now ≡ read ++ ys
-    → IsAt (Dots scale width height (wanted - length ys)) now
-at_run scale width height wanted read ys now at few all e = record {
+-- The state after the run, where both states count dots to the same command.
+pub run_at : (p q : State) (make : List ℕ → Command) (wanted : ℕ) (read ys : List ℕ) → IsAt p read → tree_of p read ≡ counted wanted (λ _. is_byte) make read → prefix_of q ≡ prefix_of p
+    → tree_of q (read ++ ys) ≡ counted (wanted - length ys) (λ _. is_byte) make (read ++ ys) → IsTrue (holds q) → has_content q ≡ true → length ys ≤ wanted → list_all is_byte ys ≡ true → IsAt q (read ++ ys)
+run_at p q make wanted read ys at here same there held has few all = record {
   leads =
-      ap (λ v. walk grammar (prefix_of (Dots scale width height wanted) ++ v)) e
-      ∙ ap (walk grammar) (sym (append_assoc (prefix_of (Dots scale width height wanted)) read ys))
-      ∙ walk-append grammar (prefix_of (Dots scale width height wanted) ++ read) ys ∙ ap (λ t. walk t ys) at.leads
-      ∙ walk-run wanted _ read ys (omega arith) all ∙ ap (tree_of (Dots scale width height (wanted - length ys))) (sym e);
-  held = some_left wanted (length ys) few;
-  empty = λ h. absurd cc;
+      ap (λ v. walk grammar (v ++ (read ++ ys))) same ∙ ap (walk grammar) (sym (append_assoc (prefix_of p) read ys))
+      ∙ walk-append grammar (prefix_of p ++ read) ys ∙ ap (λ t. walk t ys) (at.leads ∙ here) ∙ walk-run wanted make read ys few all ∙ sym there;
+  held = held;
+  empty = λ h. absurd (let e : true ≡ false = sym has ∙ h in cc);
 }
 
 -- A stream that ended in the half command ends in the one after the run.

@@ -137,15 +137,15 @@ dle_forms b h = grind (arith, nat_tests)
 pub no_after_dle : (b : ℕ) → b ≢ 4 → (read : List ℕ) → step (tree_of state.Dle read) b ≡ dead
 no_after_dle b h read = stops state.Dle read b refl (dle_forms b h) (begins_none table DLE (b ∷ []) dle_rows) (longer_than_characters DLE b [])
 
-bracket_forms : (b : ℕ) → b ≢ 72 → b ≢ 107 → part_from (GS ∷ 0x28 ∷ b ∷ []) forms ≡ true
-bracket_forms b h k = grind (arith, nat_tests)
+bracket_forms : (b : ℕ) → b ≢ 72 → b ≢ 107 → b ≢ 76 → part_from (GS ∷ 0x28 ∷ b ∷ []) forms ≡ true
+bracket_forms b h k l = grind (arith, nat_tests)
 
 bracket_rows : (b : ℕ) → rows_part_from (GS ∷ 0x28 ∷ b ∷ []) table ≡ true
 unfolding table
 bracket_rows b = refl
 
-pub no_after_bracket : (b : ℕ) → b ≢ 72 → b ≢ 107 → (read : List ℕ) → step (tree_of state.Bracket read) b ≡ dead
-no_after_bracket b h k read = stops state.Bracket read b refl (bracket_forms b h k) (bracket_rows b) (longer_than_characters GS 0x28 (b ∷ []))
+pub no_after_bracket : (b : ℕ) → b ≢ 72 → b ≢ 107 → b ≢ 76 → (read : List ℕ) → step (tree_of state.Bracket read) b ≡ dead
+no_after_bracket b h k l read = stops state.Bracket read b refl (bracket_forms b h k l) (bracket_rows b) (longer_than_characters GS 0x28 (b ∷ []))
 
 -- ## Settings
 

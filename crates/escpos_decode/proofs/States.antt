@@ -162,6 +162,24 @@ node_at (state.QrModelEnd model) read h = (_, refl)
 node_at (state.QrStoreMode length) read h = (_, refl)
 node_at (state.QrData length wanted) read h = counted_node wanted _ _ read h
 node_at state.QrPrintMode read h = (_, refl)
+node_at state.GraphicsLengthLow read h = (_, refl)
+node_at (state.GraphicsLengthHigh low) read h = (_, refl)
+node_at state.LongLetter read h = (_, refl)
+node_at state.LongLengthFirst read h = (_, refl)
+node_at (state.LongLengthSecond first) read h = (_, refl)
+node_at (state.LongLengthThird first second) read h = (_, refl)
+node_at (state.LongLengthFourth length) read h = (_, refl)
+node_at (state.GraphicsMode form length) read h = (_, refl)
+node_at (state.GraphicsFunction form length) read h = (_, refl)
+node_at (state.GraphicsTone form count) read h = (_, refl)
+node_at (state.GraphicsAcross form count) read h = (_, refl)
+node_at (state.GraphicsDown form count across) read h = (_, refl)
+node_at (state.GraphicsColor form count across down) read h = (_, refl)
+node_at (state.GraphicsWidth form count across down) read h = (_, refl)
+node_at (state.GraphicsWidthHigh form count across down low) read h = (_, refl)
+node_at (state.GraphicsHeight form count across down width) read h = (_, refl)
+node_at (state.GraphicsHeightHigh form count across down width low) read h = (_, refl)
+node_at (state.GraphicsDots head count wanted) read h = counted_node wanted _ _ read h
 
 -- ## The half command
 
@@ -280,6 +298,8 @@ some_ahead (kind.QrSize x) e = absurd cc
 some_ahead (kind.QrLevel x) e = absurd cc
 some_ahead (kind.QrStore x) e = absurd cc
 some_ahead kind.QrPrint e = absurd cc
+some_ahead (kind.GraphicsStore x) e = absurd cc
+some_ahead (kind.GraphicsPrint x) e = absurd cc
 some_ahead (kind.AutomaticStatus x) e = absurd cc
 some_ahead (kind.Status x) e = absurd cc
 some_ahead (kind.Mark x) e = absurd cc
@@ -294,6 +314,7 @@ other : (e : Ending) (read : List ℕ) → ahead_of (command_of e read) ≡ ahea
 other (ending.Bars form symbology) read = refl
 other (ending.Raster scale width height) read = refl
 other ending.QrStore read = refl
+other (ending.Graphics head) read = refl
 other ending.TabStops read = refl
 
 no_command : (half : List ℕ) (b : ℕ) → (Viable (half ++ b ∷ []) → ⊥) → (c : Command) → Spells c (half ++ b ∷ []) → ⊥

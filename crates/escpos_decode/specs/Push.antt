@@ -6,12 +6,12 @@ use Rattle.escpos_decode.specs.declared.decoder.DecodeFault.{DecodeFault}
 use Rattle.escpos_decode.specs.declared.decoder.DecodeFault.TheVariants.{Fault, Memory}
 use Rattle.escpos_decode.specs.declared.decoder.Ahead.{Ahead}
 use Rattle.escpos_decode.specs.declared.decoder.Ahead.TheVariants as ahead
-use Rattle.escpos_command.specs.declared.bytes.TheConstants.{ESC, GS}
+use Rattle.escpos_command.specs.declared.bytes.TheConstants.{ESC}
 use Rattle.escpos_command.specs.declared.command.Command.{Command}
 use Rattle.escpos_command.specs.declared.command.Command.TheVariants as kind
 use Rattle.escpos_command.specs.CommandTable.{Spells}
 use Rattle.escpos_command.specs.Grammar.{Half, Reads, FaultAt}
-use Rattle.escpos_command.specs.Places.{begins_barcode, begins_raster, reason_number}
+use Rattle.escpos_command.specs.Places.{begins_barcode, begins_raster, begins_qr, begins_graphics, begins_long_graphics, reason_number}
 
 -- What a decoder may hold: nothing, or a half command.
 abbrev pub IsRest : List ℕ → Type 0
@@ -55,14 +55,22 @@ AheadIs ahead.Other half b = (c : Command) × Spells c (half ++ b ∷ []) × (ah
 -- GS ( k begins a function of QR codes.
 abbrev pub begins_qr_code : ℕ → ℕ → List ℕ → Bool
 begins_qr_code b letter [] = false
-begins_qr_code b letter (third ∷ bs) = b == GS && letter == 0x28 && third == 0x6B
+begins_qr_code b letter (third ∷ bs) = begins_qr b letter third
+
+-- GS ( L or GS 8 L begins a function of graphics.
+abbrev pub begins_either_graphics : ℕ → ℕ → List ℕ → Bool
+begins_either_graphics b letter [] = false
+begins_either_graphics b letter (third ∷ bs) = begins_graphics b letter third || begins_long_graphics b letter third
 
 -- ESC D begins tab stops.
 abbrev pub begins_tab_stops : ℕ → ℕ → Bool
 begins_tab_stops b letter = b == ESC && letter == 0x44
 
--- The bytes begin as a barcode, a raster, tab stops or a function of QR codes does: 1D 6B, 1D 76, 1B 44 or 1D 28 6B.
+-- The bytes begin as a barcode, a raster, tab stops or a function of QR codes or of graphics does: 1D 6B, 1D 76, 1B 44, 1D 28 6B,
+-- 1D 28 4C or 1D 38 4C.
 abbrev pub begins_content : List ℕ → Bool
 begins_content [] = false
 begins_content (b ∷ []) = false
-begins_content (b ∷ letter ∷ bs) = begins_barcode b letter || begins_raster b letter || begins_tab_stops b letter || begins_qr_code b letter bs
+begins_content (b ∷ letter ∷ bs) =
+    begins_barcode b letter || begins_raster b letter || begins_tab_stops b letter || begins_qr_code b letter bs
+    || begins_either_graphics b letter bs

@@ -10,11 +10,14 @@ use Rattle.escpos_command.specs.declared.bars.Form.TheVariants.{A, B}
 use Rattle.escpos_command.specs.declared.bars.Symbology.TheVariants.{UpcE, Codabar}
 use Rattle.escpos_command.specs.Parameters.{is_byte, is_one_of_two, is_one_of_four, is_feed_cut_mode, is_mark_byte, is_qr_model}
 use Rattle.escpos_command.specs.Barcodes.{barcode, barcode_mode, is_codabar_end}
-use Rattle.escpos_command.specs.Positions.{position_prefix}
+use Rattle.escpos_command.specs.declared.graphics.GraphicsForm.{GraphicsForm}
+use Rattle.escpos_command.specs.declared.graphics.GraphicsForm.TheVariants.{Short, Long}
+use Rattle.escpos_command.specs.Graphics.{stored_picture, counted_before, length_bytes, graphics_letters, is_graphics_length, is_long_length}
+use Rattle.escpos_command.specs.Positions.{position_prefix, word_bytes}
 use Rattle.escpos_command.specs.Rasters.{picture, is_width}
 use Rattle.escpos_command.specs.Prefixes.{part_from}
 use Rattle.escpos_command.specs.SettingTable.{table, is_nothing, has_first, has_prefix, takes_third, row_prefix, row_for}
-use Rattle.escpos_command.specs.Tree.{Tree, walk, below, dead, leaf, node, passing, these, one, counted, branch, none, forms, grammar, setting_tree, position, position_high, tab_stops, pulse, cut, barcodes, raster, after_scale, after_width, after_low, plain_content, upce_content, codabar_content, content_of, dots_tree, form_b, qr, qr_high, qr_code, qr_function, qr_data}
+use Rattle.escpos_command.specs.Tree.{Tree, walk, below, dead, leaf, node, passing, these, one, counted, branch, none, forms, grammar, setting_tree, position, position_high, tab_stops, pulse, cut, barcodes, raster, after_scale, after_width, after_low, plain_content, upce_content, codabar_content, content_of, dots_tree, form_b, qr, qr_high, qr_code, qr_function, qr_data, graphics, graphics_high, long_graphics, long_second, long_third, graphics_mode, graphics_function, graphics_tone, graphics_across, graphics_down, graphics_color, graphics_width, graphics_width_high, graphics_height, graphics_height_high, graphics_dots}
 use Rattle.escpos_decode.specs.OneParameter.{parameter_prefix, parameter_allows, parameter_command}
 use Rattle.escpos_decode.specs.Push.{ahead_of, begins_content}
 use Rattle.escpos_decode.specs.declared.decoder.Ahead.{Ahead}
@@ -35,6 +38,14 @@ mark_prefix = GS ∷ 0x28 ∷ 0x48 ∷ 0x06 ∷ 0x00 ∷ 0x30 ∷ 0x30 ∷ []
 -- GS ( k.
 abbrev pub qr_prefix : List ℕ
 qr_prefix = GS ∷ 0x28 ∷ 0x6B ∷ []
+
+-- Function 112 of graphics whose length counts so many bytes of dots, and these bytes after it; and the same with all that stands before
+-- the height.
+abbrev pub graphics_prefix : GraphicsForm → ℕ → List ℕ → List ℕ
+graphics_prefix form count bs = graphics_letters form ++ length_bytes form (count + counted_before) ++ 0x30 ∷ 0x70 ∷ bs
+
+abbrev pub size_prefix : GraphicsForm → ℕ → ℕ → ℕ → ℕ → List ℕ → List ℕ
+size_prefix form count across down width bs = graphics_prefix form count (0x30 ∷ across ∷ down ∷ 0x31 ∷ word_bytes width ++ bs)
 
 -- The bytes that lead to a state, without content and dots.
 abbrev pub prefix_of : State → List ℕ
@@ -87,6 +98,24 @@ prefix_of (state.QrModelEnd model) = qr_prefix ++ 0x04 ∷ 0x00 ∷ 0x31 ∷ 0x4
 prefix_of (state.QrStoreMode length) = qr_prefix ++ length % 256 ∷ length / 256 ∷ 0x31 ∷ 0x50 ∷ []
 prefix_of (state.QrData length wanted) = qr_prefix ++ length % 256 ∷ length / 256 ∷ 0x31 ∷ 0x50 ∷ 0x30 ∷ []
 prefix_of state.QrPrintMode = qr_prefix ++ 0x03 ∷ 0x00 ∷ 0x31 ∷ 0x51 ∷ []
+prefix_of state.GraphicsLengthLow = graphics_letters Short
+prefix_of (state.GraphicsLengthHigh low) = graphics_letters Short ++ low ∷ []
+prefix_of state.LongLetter = GS ∷ 0x38 ∷ []
+prefix_of state.LongLengthFirst = graphics_letters Long
+prefix_of (state.LongLengthSecond first) = graphics_letters Long ++ first ∷ []
+prefix_of (state.LongLengthThird first second) = graphics_letters Long ++ first ∷ second ∷ []
+prefix_of (state.LongLengthFourth length) = graphics_letters Long ++ take 3 (length_bytes Long length)
+prefix_of (state.GraphicsMode form length) = graphics_letters form ++ length_bytes form length
+prefix_of (state.GraphicsFunction form length) = graphics_letters form ++ length_bytes form length ++ 0x30 ∷ []
+prefix_of (state.GraphicsTone form count) = graphics_prefix form count []
+prefix_of (state.GraphicsAcross form count) = graphics_prefix form count (0x30 ∷ [])
+prefix_of (state.GraphicsDown form count across) = graphics_prefix form count (0x30 ∷ across ∷ [])
+prefix_of (state.GraphicsColor form count across down) = graphics_prefix form count (0x30 ∷ across ∷ down ∷ [])
+prefix_of (state.GraphicsWidth form count across down) = graphics_prefix form count (0x30 ∷ across ∷ down ∷ 0x31 ∷ [])
+prefix_of (state.GraphicsWidthHigh form count across down low) = graphics_prefix form count (0x30 ∷ across ∷ down ∷ 0x31 ∷ low ∷ [])
+prefix_of (state.GraphicsHeight form count across down width) = size_prefix form count across down width []
+prefix_of (state.GraphicsHeightHigh form count across down width low) = size_prefix form count across down width (low ∷ [])
+prefix_of (state.GraphicsDots head count wanted) = size_prefix head.form count head.across head.down head.width (word_bytes head.height)
 
 -- The part of the tree below a state, where this content, or these dots, were read.
 abbrev pub tree_of : State → List ℕ → Tree
@@ -139,6 +168,24 @@ tree_of (state.QrModelEnd model) read = these (0x00 ∷ []) (leaf (kind.QrModel 
 tree_of (state.QrStoreMode length) read = these (0x30 ∷ []) (qr_data (length - 3) [])
 tree_of (state.QrData length wanted) read = qr_data wanted read
 tree_of state.QrPrintMode read = these (0x30 ∷ []) (leaf kind.QrPrint)
+tree_of state.GraphicsLengthLow read = graphics
+tree_of (state.GraphicsLengthHigh low) read = graphics_high low
+tree_of state.LongLetter read = long_graphics
+tree_of state.LongLengthFirst read = passing is_byte long_second
+tree_of (state.LongLengthSecond first) read = long_second first
+tree_of (state.LongLengthThird first second) read = long_third first second
+tree_of (state.LongLengthFourth length) read = these (0x00 ∷ []) (graphics_mode Long length)
+tree_of (state.GraphicsMode form length) read = graphics_mode form length
+tree_of (state.GraphicsFunction form length) read = graphics_function form length
+tree_of (state.GraphicsTone form count) read = graphics_tone form count
+tree_of (state.GraphicsAcross form count) read = graphics_across form count
+tree_of (state.GraphicsDown form count across) read = graphics_down form count across
+tree_of (state.GraphicsColor form count across down) read = graphics_color form count across down
+tree_of (state.GraphicsWidth form count across down) read = graphics_width form count across down
+tree_of (state.GraphicsWidthHigh form count across down low) read = graphics_width_high form count across down low
+tree_of (state.GraphicsHeight form count across down width) read = graphics_height form count across down width
+tree_of (state.GraphicsHeightHigh form count across down width low) read = graphics_height_high form count across down width low
+tree_of (state.GraphicsDots head count wanted) read = graphics_dots head wanted read
 
 -- ## Steps
 
@@ -152,6 +199,7 @@ command_of (ending.Bars form symbology) content = kind.Bars (barcode form symbol
 command_of (ending.Raster scale width height) dots = kind.Raster (picture scale width height dots)
 command_of ending.QrStore bytes = kind.QrStore bytes
 command_of ending.TabStops columns = kind.TabStops columns
+command_of (ending.Graphics head) dots = kind.GraphicsStore (stored_picture head dots)
 
 -- The state has content or dots after the bytes that lead to it.
 abbrev pub has_content : State → Bool
@@ -162,6 +210,7 @@ has_content state.CodabarEnd = true
 has_content (state.Content symbology length wanted) = true
 has_content (state.Dots scale width height wanted) = true
 has_content (state.QrData length wanted) = true
+has_content (state.GraphicsDots head count wanted) = true
 has_content _ = false
 
 -- What a state holds is in range.
@@ -183,6 +232,18 @@ holds (state.Dots scale width height wanted) = nat_lt 0 wanted
 holds (state.QrModelEnd model) = is_qr_model model
 holds (state.QrStoreMode length) = nat_le 4 length
 holds (state.QrData length wanted) = nat_lt 0 wanted
+holds (state.LongLengthFourth length) = is_long_length length
+holds (state.GraphicsMode form length) = is_graphics_length length
+holds (state.GraphicsFunction form length) = is_graphics_length length
+holds (state.GraphicsTone form count) = nat_lt 0 count
+holds (state.GraphicsAcross form count) = nat_lt 0 count
+holds (state.GraphicsDown form count across) = nat_lt 0 count
+holds (state.GraphicsColor form count across down) = nat_lt 0 count
+holds (state.GraphicsWidth form count across down) = nat_lt 0 count
+holds (state.GraphicsWidthHigh form count across down low) = nat_lt 0 count
+holds (state.GraphicsHeight form count across down width) = nat_lt 0 count
+holds (state.GraphicsHeightHigh form count across down width low) = nat_lt 0 count
+holds (state.GraphicsDots head count wanted) = nat_lt 0 wanted
 holds _ = true
 
 -- How many bytes of content, or of dots, are still to come at a state, where this is known.
@@ -190,6 +251,7 @@ abbrev pub wanted_at : State → ℕ
 wanted_at (state.Content symbology length wanted) = wanted
 wanted_at (state.Dots scale width height wanted) = wanted
 wanted_at (state.QrData length wanted) = wanted
+wanted_at (state.GraphicsDots head count wanted) = wanted
 wanted_at _ = 0
 
 -- A decoder may stand at this state with this content read: the bytes lead there, and there is no content where the state

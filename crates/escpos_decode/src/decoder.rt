@@ -20,7 +20,8 @@ ghost use Rattle.escpos_decode.specs.declared.decoder.Step.TheVariants.{Done};
 
 use crate::state::{Ending, Next, State};
 use escpos_command::{
-    Bars, Character, Command, FaultReason, QrData, Raster, Setting, SettingKind, TabStops, laws,
+    Bars, Character, Command, FaultReason, Graphics, QrData, Raster, Setting, SettingKind,
+    TabStops, laws,
 };
 use std::alloc::{AllocError, Global};
 use std::marker::Model;
@@ -85,9 +86,9 @@ pub enum DecodeFault {
     /// No spelling begins with the half command and this byte. `at` is the number of bytes of the half command before it.
     /// The half command is dropped, and the next byte is read as the start of a command.
     Fault { at: usize, why: FaultReason },
-    /// Out of memory for the content of a barcode, the dots of a raster, the data of a QR code or tab stops. The decoder is
-    /// unchanged and the byte isn't taken. It comes only for a byte that isn't refused, and only within a barcode, a raster,
-    /// tab stops or a function of GS ( k.
+    /// Out of memory for the content of a barcode, the dots of a raster or of graphics, the data of a QR code or tab stops. The
+    /// decoder is unchanged and the byte isn't taken. It comes only for a byte that isn't refused, and only within a barcode, a
+    /// raster, tab stops or a function of GS ( k, GS ( L or GS 8 L.
     Memory,
 }
 
@@ -135,7 +136,7 @@ impl Decoder {
         // Whatever bytes of a stream came before, the stream is read up to this byte, or refused at its place.
         ensures stream { GoesOn result self.old byte self.new }
         ensures rest { IsRest self.new }
-        // Only the content of a barcode, the dots of a raster and the data of a QR code are allocated.
+        // Only the content of a barcode, the dots of a raster or of graphics, the data of a QR code and tab stops are allocated.
         ensures memory { result ≡ Err Memory → IsTrue (begins_content (self.old ++ byte ∷ [])) }
     {
         let step = self.step(byte);
@@ -201,7 +202,7 @@ impl Decoder {
         }
     }
 
-    /// Takes the dots of a raster at the start of `bytes`, all but the raster's last byte, and returns how many bytes it
+    /// Takes the dots of a raster or of graphics at the start of `bytes`, all but their last byte, and returns how many bytes it
     /// took: 0 where the half command has no dots to come, or only one byte of them. No such byte is refused or ends a
     /// command. Allocates nothing.
     pub fn push_dots(&mut self, bytes: &[u8]) -> usize
@@ -209,24 +210,13 @@ impl Decoder {
         ensures grown { self.new ≡ self.old ++ take result bytes.now }
         ensures stream { (a : List ℕ) (cs : List Command) → Reads a cs self.old → Reads (a ++ take result bytes.now) cs self.new }
     {
-        let State::Dots {
-            scale,
-            width,
-            height,
-            wanted,
-        } = self.state
-        else {
+        let (state, count) = self.state.past_dots(bytes.len());
+        if count == 0 {
             return 0;
-        };
-        let count = bytes.len().min(wanted as usize - 1);
+        }
         self.looked = None;
         self.content.extend_from_slice(&bytes[..count]).unwrap();
-        self.state = State::Dots {
-            scale,
-            width,
-            height,
-            wanted: wanted - count as u32,
-        };
+        self.state = state;
         count
     }
 
@@ -307,7 +297,7 @@ impl Decoder {
         ahead
     }
 
-    /// The number of bytes of the half command, at most 524,167: fewer than the longest spelling has. Allocates nothing.
+    /// The number of bytes of the half command, at most 524,176: fewer than the longest spelling has. Allocates nothing.
     pub fn pending_len(&self) -> usize
         ensures value { result ≡ length self.now }
         ensures rest { IsRest self.now }
@@ -432,6 +422,10 @@ fn end(content: &mut Vec<u8>, ending: Ending, alloc: Global) -> Command
         },
         Ending::QrStore => match QrData::new(content) {
             Ok(stored) => Command::QrStore(stored),
+            Err(_) => unreachable!(),
+        },
+        Ending::Graphics(head) => match Graphics::new(head, content) {
+            Ok(stored) => Command::GraphicsStore(stored),
             Err(_) => unreachable!(),
         },
         Ending::TabStops => match TabStops::new(content) {

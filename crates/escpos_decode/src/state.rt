@@ -5,23 +5,26 @@
 //! decoder's. `specs/State.antt` defines which bytes lead to a state, and which part of the tree of the command table is
 //! below it.
 
-ghost use Rattle.std.specs.Prelude.{◌≡◌, ◌∷◌, ◌++◌, ◌&&◌, [], ℕ, List, length, false, IsTrue, Some, None};
+ghost use Rattle.std.specs.Prelude.{◌≡◌, ◌≤◌, ◌<◌, ◌∷◌, ◌++◌, ◌+◌, ◌&&◌, [], ℕ, List, length, false, IsTrue, Some, None};
+ghost use Rattle.std.specs.List.{list_all};
 ghost use Rattle.escpos_command.specs.declared.command.Command.{Command};
-ghost use Rattle.escpos_command.specs.Parameters.{is_character, is_mark_byte, is_old_cut};
+ghost use Rattle.escpos_command.specs.Graphics.{length_bytes};
+ghost use Rattle.escpos_command.specs.Parameters.{is_byte, is_character, is_mark_byte, is_old_cut};
 ghost use Rattle.escpos_command.specs.Places.{reason_after};
 ghost use Rattle.escpos_command.specs.Prefixes.{part_from};
 ghost use Rattle.escpos_command.specs.SettingTable.{table, row_for, row_prefix};
 ghost use Rattle.escpos_command.specs.Tree.{these, walk, forms, grammar};
-ghost use Rattle.escpos_decode.specs.State.{prefix_of, tree_of, holds, has_content, wanted_at, NextIs};
+ghost use Rattle.escpos_decode.specs.State.{prefix_of, tree_of, holds, has_content, wanted_at, IsAt, NextIs};
 ghost use Rattle.escpos_decode.specs.declared.state.State.{State};
 ghost use Rattle.escpos_decode.specs.declared.state.State.TheVariants as state;
 ghost use Rattle.escpos_decode.specs.declared.state.Next.TheVariants as next;
 
 use crate::one_parameter::OneParameter;
-use crate::{content, qr};
+use crate::{content, graphics, qr};
 use escpos_command::{
-    CR, Character, Command, Cut, DLE, EOT, ESC, FaultReason, Form, GS, HT, LF, MarkId, OldCut,
-    Position, PositionKind, Pulse, Setting, SettingKind, Symbology, is_mark_byte,
+    CR, Character, Command, Cut, DLE, EOT, ESC, FaultReason, Form, GS, GraphicsForm, GraphicsHead,
+    HT, LF, MarkId, OldCut, Position, PositionKind, Pulse, Setting, SettingKind, Symbology,
+    is_mark_byte,
 };
 
 /// A state in the command table between two bytes.
@@ -193,6 +196,100 @@ pub enum State {
     },
     /// After function 81: m.
     QrPrintMode,
+    /// After GS ( L: the low byte of the length.
+    GraphicsLengthLow,
+    /// The high byte of the length.
+    GraphicsLengthHigh {
+        low: u8,
+    },
+    /// After GS 8: L.
+    LongLetter,
+    /// After GS 8 L: the first byte of the length.
+    LongLengthFirst,
+    /// Its second byte.
+    LongLengthSecond {
+        first: u8,
+    },
+    /// Its third byte.
+    LongLengthThird {
+        first: u8,
+        second: u8,
+    },
+    /// Its fourth byte, 0.
+    LongLengthFourth {
+        length: u32,
+    },
+    /// After the length of either form: m.
+    GraphicsMode {
+        form: GraphicsForm,
+        length: u32,
+    },
+    /// After m: the function.
+    GraphicsFunction {
+        form: GraphicsForm,
+        length: u32,
+    },
+    /// After function 112: the tone, where `count` bytes of dots are sent.
+    GraphicsTone {
+        form: GraphicsForm,
+        count: u32,
+    },
+    /// The factor of dots across.
+    GraphicsAcross {
+        form: GraphicsForm,
+        count: u32,
+    },
+    /// The factor of dots down.
+    GraphicsDown {
+        form: GraphicsForm,
+        count: u32,
+        across: u8,
+    },
+    /// The colour.
+    GraphicsColor {
+        form: GraphicsForm,
+        count: u32,
+        across: u8,
+        down: u8,
+    },
+    /// The low byte of the width.
+    GraphicsWidth {
+        form: GraphicsForm,
+        count: u32,
+        across: u8,
+        down: u8,
+    },
+    /// The high byte of the width.
+    GraphicsWidthHigh {
+        form: GraphicsForm,
+        count: u32,
+        across: u8,
+        down: u8,
+        low: u8,
+    },
+    /// The low byte of the height.
+    GraphicsHeight {
+        form: GraphicsForm,
+        count: u32,
+        across: u8,
+        down: u8,
+        width: u16,
+    },
+    /// The high byte of the height.
+    GraphicsHeightHigh {
+        form: GraphicsForm,
+        count: u32,
+        across: u8,
+        down: u8,
+        width: u16,
+        low: u8,
+    },
+    /// In the `count` bytes of dots of graphics, of which `wanted` are still to come.
+    GraphicsDots {
+        head: GraphicsHead,
+        count: u32,
+        wanted: u32,
+    },
 }
 
 /// What a content, or dots, make when they end.
@@ -202,6 +299,7 @@ pub enum Ending {
     Raster { scale: u8, width: u8, height: u16 },
     QrStore,
     TabStops,
+    Graphics(GraphicsHead),
 }
 
 /// Where a byte leads from a state.
@@ -306,6 +404,137 @@ impl State {
             State::QrStoreMode { length } => qr::store_mode(length, byte),
             State::QrData { length, wanted } => qr::stored(length, wanted, byte),
             State::QrPrintMode => qr::print_mode(byte),
+            State::GraphicsLengthLow => Next::To(State::GraphicsLengthHigh { low: byte }),
+            State::GraphicsLengthHigh { low } => graphics::length(low, byte),
+            State::LongLetter => fixed(byte, b'L', State::LongLengthFirst),
+            State::LongLengthFirst => Next::To(State::LongLengthSecond { first: byte }),
+            State::LongLengthSecond { first } => Next::To(State::LongLengthThird {
+                first,
+                second: byte,
+            }),
+            State::LongLengthThird { first, second } => graphics::long_third(first, second, byte),
+            State::LongLengthFourth { length } => {
+                let form = GraphicsForm::Long;
+                fixed(byte, 0, State::GraphicsMode { form, length })
+            }
+            State::GraphicsMode { form, length } => {
+                fixed(byte, b'0', State::GraphicsFunction { form, length })
+            }
+            State::GraphicsFunction { form, length } => graphics::function(form, length, byte),
+            State::GraphicsTone { form, count } => {
+                fixed(byte, b'0', State::GraphicsAcross { form, count })
+            }
+            State::GraphicsAcross { form, count } => graphics::across(form, count, byte),
+            State::GraphicsDown {
+                form,
+                count,
+                across,
+            } => graphics::down(form, count, across, byte),
+            State::GraphicsColor {
+                form,
+                count,
+                across,
+                down,
+            } => fixed(
+                byte,
+                b'1',
+                State::GraphicsWidth {
+                    form,
+                    count,
+                    across,
+                    down,
+                },
+            ),
+            State::GraphicsWidth {
+                form,
+                count,
+                across,
+                down,
+            } => Next::To(State::GraphicsWidthHigh {
+                form,
+                count,
+                across,
+                down,
+                low: byte,
+            }),
+            State::GraphicsWidthHigh {
+                form,
+                count,
+                across,
+                down,
+                low,
+            } => graphics::width(form, count, across, down, low, byte),
+            State::GraphicsHeight {
+                form,
+                count,
+                across,
+                down,
+                width,
+            } => Next::To(State::GraphicsHeightHigh {
+                form,
+                count,
+                across,
+                down,
+                width,
+                low: byte,
+            }),
+            State::GraphicsHeightHigh {
+                form,
+                count,
+                across,
+                down,
+                width,
+                low,
+            } => graphics::height(form, count, across, down, width, low, byte),
+            State::GraphicsDots {
+                head,
+                count,
+                wanted,
+            } => graphics::dots(head, count, wanted, byte),
+        }
+    }
+
+    /// Where the first of `len` more bytes lead if dots are to come here, and how many of them these are: all but the last byte of the
+    /// dots. Here and 0 if none are to come.
+    pub fn past_dots(self, len: usize) -> (State, usize)
+        requires { IsTrue (holds self) }
+        ensures count { result.1 ≤ len }
+        ensures prefix { prefix_of result.0 ≡ prefix_of self }
+        ensures wanted { wanted_at self ≡ wanted_at result.0 + result.1 }
+        ensures there { (read run : List ℕ) → IsAt self read → length run ≡ result.1 → IsTrue (list_all is_byte run) → IsAt result.0 (read ++ run) }
+    {
+        match self {
+            State::Dots {
+                scale,
+                width,
+                height,
+                wanted,
+            } => {
+                let count = before_last(len, wanted);
+                let wanted = wanted - count as u32;
+                let there = State::Dots {
+                    scale,
+                    width,
+                    height,
+                    wanted,
+                };
+                (there, count)
+            }
+            State::GraphicsDots {
+                head,
+                count: sent,
+                wanted,
+            } => {
+                let count = before_last(len, wanted);
+                let wanted = wanted - count as u32;
+                let there = State::GraphicsDots {
+                    head,
+                    count: sent,
+                    wanted,
+                };
+                (there, count)
+            }
+            _ => (self, 0),
         }
     }
 
@@ -325,7 +554,8 @@ impl State {
             | State::CutMode
             | State::Bracket
             | State::BarsMode
-            | State::RasterFunction => 2,
+            | State::RasterFunction
+            | State::LongLetter => 2,
             State::PositionHigh { .. }
             | State::PulseOn { .. }
             | State::CutFeed { .. }
@@ -337,14 +567,24 @@ impl State {
             | State::CodabarEnd
             | State::ContentLength { .. }
             | State::RasterScale
-            | State::QrLengthLow => 3,
+            | State::QrLengthLow
+            | State::GraphicsLengthLow
+            | State::LongLengthFirst => 3,
             State::PulseOff { .. }
             | State::MarkLengthHigh
             | State::Content { .. }
             | State::RasterWidth { .. }
-            | State::QrLengthHigh { .. } => 4,
-            State::MarkFunction | State::RasterWidthHigh { .. } | State::QrCode { .. } => 5,
-            State::MarkMode | State::RasterHeight { .. } | State::QrFunction { .. } => 6,
+            | State::QrLengthHigh { .. }
+            | State::GraphicsLengthHigh { .. }
+            | State::LongLengthSecond { .. } => 4,
+            State::MarkFunction
+            | State::RasterWidthHigh { .. }
+            | State::QrCode { .. }
+            | State::LongLengthThird { .. } => 5,
+            State::MarkMode
+            | State::RasterHeight { .. }
+            | State::QrFunction { .. }
+            | State::LongLengthFourth { .. } => 6,
             State::MarkFirst
             | State::RasterHeightHigh { .. }
             | State::QrModelNumber
@@ -356,6 +596,17 @@ impl State {
             | State::QrData { .. } => 8,
             State::MarkThird { .. } => 9,
             State::MarkFourth { .. } => 10,
+            State::GraphicsMode { form, .. } => 3 + length_bytes(form),
+            State::GraphicsFunction { form, .. } => 4 + length_bytes(form),
+            State::GraphicsTone { form, .. } => 5 + length_bytes(form),
+            State::GraphicsAcross { form, .. } => 6 + length_bytes(form),
+            State::GraphicsDown { form, .. } => 7 + length_bytes(form),
+            State::GraphicsColor { form, .. } => 8 + length_bytes(form),
+            State::GraphicsWidth { form, .. } => 9 + length_bytes(form),
+            State::GraphicsWidthHigh { form, .. } => 10 + length_bytes(form),
+            State::GraphicsHeight { form, .. } => 11 + length_bytes(form),
+            State::GraphicsHeightHigh { form, .. } => 12 + length_bytes(form),
+            State::GraphicsDots { head, .. } => 13 + length_bytes(head.form),
         }
     }
 
@@ -373,6 +624,9 @@ impl State {
             | State::First { .. }
             | State::Bracket
             | State::RasterFunction
+            | State::LongLetter
+            | State::GraphicsMode { .. }
+            | State::GraphicsFunction { .. }
             | State::QrCode { .. }
             | State::QrFunction { .. } => FaultReason::UnknownCommand,
             State::Letters { .. } => FaultReason::UnknownCommand,
@@ -387,10 +641,35 @@ impl State {
             | State::RasterWidthHigh { .. }
             | State::RasterHeight { .. }
             | State::RasterHeightHigh { .. }
+            | State::GraphicsWidth { .. }
+            | State::GraphicsWidthHigh { .. }
+            | State::GraphicsHeight { .. }
+            | State::GraphicsHeightHigh { .. }
+            | State::GraphicsDots { .. }
             | State::Dots { .. } => FaultReason::BadSize,
             State::Setting(_) => FaultReason::BadParameter,
             _ => FaultReason::BadParameter,
         }
+    }
+}
+
+// How many of `len` bytes of dots come before the last of those that are wanted.
+fn before_last(len: usize, wanted: u32) -> usize
+    requires { 0 < wanted }
+    ensures count { result ≤ len }
+    ensures few { result < wanted }
+{
+    len.min(wanted as usize - 1)
+}
+
+// How many bytes the length of a function of graphics has.
+fn length_bytes(form: GraphicsForm) -> usize
+    ensures counted { (n : ℕ) → result ≡ length (length_bytes form n) }
+    ensures few { result ≤ 4 }
+{
+    match form {
+        GraphicsForm::Short => 2,
+        GraphicsForm::Long => 4,
     }
 }
 
@@ -501,6 +780,7 @@ fn after_gs(byte: u8) -> Next
 {
     match byte {
         b'(' => Next::To(State::Bracket),
+        b'8' => Next::To(State::LongLetter),
         b'L' => Next::To(State::PositionLow(PositionKind::LeftMargin)),
         b'V' => Next::To(State::CutMode),
         b'W' => Next::To(State::PositionLow(PositionKind::AreaWidth)),
@@ -571,6 +851,7 @@ fn after_bracket(byte: u8) -> Next
 {
     match byte {
         b'H' => Next::To(State::MarkLengthLow),
+        b'L' => Next::To(State::GraphicsLengthLow),
         b'k' => Next::To(State::QrLengthLow),
         _ => Next::Refused,
     }

@@ -5,3 +5,4 @@
 pub mod comparison;
 pub mod decoders;
 pub mod plain;
+pub mod plain_graphics;

@@ -76,8 +76,8 @@ of a printer that knows them may differ.
 
       The commands of Epson's Reference by their first bytes, hexadecimal. What
       is taken may still be refused at a parameter that it doesn't have; a byte
-      that isn't here is refused, too, below 20, or after 10, 1B, 1B 63, 1C, 1D
-      or 1D 28.
+      that isn't here is refused, too, below 20, or after 10, 1B, 1B 63, 1C, 1D,
+      1D 28, 1D 38 or 1D 76.
 
           09        HT      taken
           0A        LF      taken
@@ -144,7 +144,7 @@ of a printer that knows them may differ.
           1D 28 47  GS ( G  refused: of few printers
           1D 28 48  GS ( H  taken: function 48
           1D 28 4B  GS ( K  refused: settings of the machine
-          1D 28 4C  GS ( L  refused: an image in another form than GS v 0
+          1D 28 4C  GS ( L  taken: images to be stored, functions 112 and 50
           1D 28 4D  GS ( M  refused: settings of the machine
           1D 28 4E  GS ( N  refused: effects on characters
           1D 28 50  GS ( P  refused: page mode
@@ -152,7 +152,7 @@ of a printer that knows them may differ.
           1D 28 6B  GS ( k  taken: QR codes: functions 65, 67, 69, 80 and 81
           1D 2A     GS *    refused: an image in another form than GS v 0
           1D 2F     GS /    refused: an image in another form than GS v 0
-          1D 38     GS 8 L  refused: an image in another form than GS v 0
+          1D 38     GS 8 L  taken: images to be stored, function 112
           1D 3A     GS :    refused: macros
           1D 3C     GS <    refused: label paper
           1D 43     GS C    refused: counters of the machine

@@ -40,6 +40,8 @@ word_of (kind.TabStops columns) = codes "tabstops"
 word_of (kind.Pulse pulse) = codes "pulse"
 word_of (kind.Bars bars) = codes "bars"
 word_of (kind.Raster raster) = codes "raster"
+word_of (kind.GraphicsStore graphics) = codes "graphics"
+word_of (kind.GraphicsPrint fn) = codes "graphicsprint"
 word_of (kind.QrModel n) = codes "qrmodel"
 word_of (kind.QrSize n) = codes "qrsize"
 word_of (kind.QrLevel n) = codes "qrlevel"
@@ -55,12 +57,15 @@ abbrev pub byte_value : ℕ → List ℕ
 byte_value n = SPACE ∷ encode_lower (n ∷ [])
 
 -- What follows the name: the parameter bytes as sent. The id of a mark stands as it is, since its bytes can be
--- printed. A barcode has its mode and its content, a raster its scale, width and height, a store of QR codes its data, and tab stops their
+-- printed. A barcode has its mode and its content, a raster its scale, width and height, graphics their factors, width
+-- and height, a store of QR codes its data, and tab stops their
 -- columns.
 abbrev pub values_of : Command → List ℕ
 values_of (kind.Mark id) = SPACE ∷ id
 values_of (kind.Bars bars) = byte_value (barcode_mode bars.form bars.symbology) ++ SPACE ∷ encode_lower bars.content
 values_of (kind.Raster raster) = byte_value raster.scale ++ SPACE ∷ decimal raster.width ++ SPACE ∷ decimal raster.height
+values_of (kind.GraphicsStore graphics) =
+    byte_value graphics.head.across ++ byte_value graphics.head.down ++ SPACE ∷ decimal graphics.head.width ++ SPACE ∷ decimal graphics.head.height
 values_of (kind.QrStore stored) = SPACE ∷ encode_lower stored
 values_of (kind.TabStops columns) = flat_map byte_value columns
 values_of c = flat_map byte_value (entry_of c).parameters

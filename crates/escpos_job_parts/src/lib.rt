@@ -14,7 +14,7 @@ pub mod input;
 pub mod lines;
 mod notes;
 pub mod places;
-mod real_time;
+pub mod real_time;
 pub mod receipt_input;
 pub mod refusal;
 pub mod status;

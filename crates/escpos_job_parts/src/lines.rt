@@ -6,6 +6,7 @@ ghost use Rattle.escpos_job_parts.specs.Lines.{byte_value, command_line, end_lin
 ghost use Rattle.escpos_job_parts.specs.LastText.{last_text};
 ghost use Rattle.escpos_job_parts.specs.Notes.{note_line};
 ghost use Rattle.escpos_command.specs.declared.command.Command.TheVariants as kind;
+ghost use Rattle.escpos_command.specs.Graphics.{stored_picture};
 ghost use Rattle.escpos_io.specs.Giving.{IsGiven};
 ghost use Rattle.escpos_io.specs.Putting.{passage};
 ghost use Rattle.hex.specs.Hex.{encode_lower};
@@ -14,7 +15,7 @@ use crate::ending::MEMORY;
 use crate::notes::{WrongDigit, wrong_digit};
 use crate::places::PlaceText;
 use crate::real_time::put_note;
-use escpos_command::{Bars, Command, FaultReason, LF, PositionKind, QrData, Raster};
+use escpos_command::{Bars, Command, FaultReason, GraphicsHead, LF, PositionKind, QrData, Raster};
 use escpos_io::{
     ByteOut, Device, GATHERED_BYTES, Gather, Piece, append_digits_after, append_number,
     append_small_number, put_digits,
@@ -221,6 +222,8 @@ fn word(command: &Command) -> &'static [u8]
         Command::Pulse(_) => b"pulse",
         Command::Bars(_) => b"bars",
         Command::Raster(_) => b"raster",
+        Command::GraphicsStore(_) => b"graphics",
+        Command::GraphicsPrint(_) => b"graphicsprint",
         Command::QrModel(_) => b"qrmodel",
         Command::QrSize(_) => b"qrsize",
         Command::QrLevel(_) => b"qrlevel",
@@ -247,7 +250,7 @@ fn position_word(kind: PositionKind) -> &'static [u8]
 }
 
 // Appends what follows the name: a space and two digits for each parameter byte, a space and the id of a mark, or what a
-// barcode or a raster carries.
+// barcode, a raster or graphics carry.
 fn append_values(gather: &mut Gather, command: &Command)
     requires no_data { (stored : List ℕ) → command.now ≢ kind.QrStore stored }
     requires room { length gather.old.kept + 520 ≤ GATHERED_BYTES }
@@ -263,6 +266,7 @@ fn append_values(gather: &mut Gather, command: &Command)
         }
         Command::Bars(bars) => append_bars(gather, bars),
         Command::Raster(raster) => append_raster(gather, raster),
+        Command::GraphicsStore(graphics) => append_graphics(gather, graphics.head()),
         Command::TabStops(stops) => append_bytes(gather, stops.as_slice()),
         _ => append_bytes(gather, command.parts().parameters.as_slice()),
     }
@@ -306,6 +310,21 @@ fn append_raster(gather: &mut Gather, raster: &Raster)
     append_number(gather, usize::from(raster.width()));
     gather.push(SPACE);
     append_number(gather, usize::from(raster.height()));
+}
+
+// Appends the factors and the size of graphics.
+fn append_graphics(gather: &mut Gather, head: GraphicsHead)
+    requires { length gather.old.kept + 64 ≤ GATHERED_BYTES }
+    ensures kept { (dots : List ℕ) → gather.new.kept ≡ gather.old.kept ++ values_of (kind.GraphicsStore (stored_picture head dots)) }
+    ensures same_count { gather.new.written ≡ gather.old.written }
+    ensures short { (dots : List ℕ) → length (values_of (kind.GraphicsStore (stored_picture head dots))) ≤ 64 }
+{
+    append_byte(gather, head.across);
+    append_byte(gather, head.down);
+    gather.push(SPACE);
+    append_number(gather, usize::from(head.width));
+    gather.push(SPACE);
+    append_number(gather, usize::from(head.height));
 }
 
 /// Appends a space and two digits for each byte.

@@ -31,8 +31,8 @@ pub(crate) fn put_note<W: ByteOut>(
     Ok(())
 }
 
-// Whether a real-time command stands in a command that isn't one itself.
-fn is_hiding(command: &Command) -> bool
+/// Whether a real-time command stands in a command that isn't one itself. Allocates nothing.
+pub fn is_hiding(command: &Command) -> bool
     ensures { result ≡ is_hiding command.now }
 {
     match command {

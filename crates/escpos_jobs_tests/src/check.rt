@@ -120,7 +120,34 @@ fn real_time_noted(rt: HostRuntime) {
     assert!(&rt; performs_rows(rt.alloc(), check_task(), &CHECKED_REAL_TIME, &[1, 5, 4096]));
 }
 
-const CHECKED_CONTENTS: [Row; 31] = [
+const CHECKED_CONTENTS: [Row; 36] = [
+    // graphics in both forms, and prints of them
+    (
+        b"1D 28 4C 0E 00 30 70 30 01 02 31 0C 00 02 00 FF F0 80 10 1D 28 4C 02 00 30 32",
+        b"0 graphics 01 02 12 2\n19 graphicsprint 32\nend 26 pending 0\n",
+        Status::Good,
+    ),
+    (
+        b"1D 38 4C 0D 00 00 00 30 70 30 02 01 31 05 00 03 00 10 00 F8 1D 28 4C 02 00 30 02 41",
+        b"0 graphics 02 01 5 3\n20 graphicsprint 02\n27 char 41\nend 28 pending 0\n",
+        Status::Good,
+    ),
+    (
+        b"1D 28 4C 0D 00 30 70 30 01 01 31 08 00 03 00 10 14 01",
+        b"0 graphics 01 01 8 3\nnote 0 real-time\nend 18 pending 0\n",
+        Status::Good,
+    ),
+    // as many bytes are read as the length counts, whatever the size; a height out of range is refused
+    (
+        b"1D 28 4C 0D 00 30 70 30 01 01 31 05 00 01 00 F8 04 1D 41",
+        b"0 graphics 01 01 5 1\n18 char 41\nend 19 pending 0\n",
+        Status::Good,
+    ),
+    (
+        b"1D 28 4C 0C 00 30 70 30 01 01 31 05 00 00 10",
+        b"fault 14 5 BadSize\n",
+        Status::Refused,
+    ),
     // ean13
     (
         b"1D 6B 02 34 30 30 36 33 38 31 33 33 33 39 33 00",
@@ -436,8 +463,8 @@ fn a_long_barcode(rt: HostRuntime) {
     prints_long(&rt, rt.alloc(), check_task(), &LONG_BARCODE);
 }
 
-// A raster of 128 bytes a row through `check`: whole, and without its last byte.
-const LARGEST: [Long; 2] = [
+// A raster of 128 bytes a row through `check`: whole, and without its last byte; and graphics of as many.
+const LARGEST: [Long; 3] = [
     (
         Text::Filled(b"1D7630008000FF0F", b'a', 1_048_336),
         Text::Whole(b"0 raster 00 128 4095\nend 524168 pending 0\n"),
@@ -447,6 +474,11 @@ const LARGEST: [Long; 2] = [
         Text::Filled(b"1D7630008000FF0F", b'a', 1_048_334),
         Text::Whole(b"end 524167 pending 524167\n"),
         Status::Refused,
+    ),
+    (
+        Text::Filled(b"1D384C8AFF07003070300101310004FF0F", b'a', 1_048_354),
+        Text::Whole(b"0 graphics 01 01 1024 4095\nend 524177 pending 0\n"),
+        Status::Good,
     ),
 ];
 

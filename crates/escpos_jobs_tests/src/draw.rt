@@ -31,7 +31,7 @@ text{font-family:\"DejaVu Sans Mono\",Menlo,Consolas,monospace;font-size:20px;wh
 // A stream in hexadecimal, the height of its paper and of its document in dots, and what stands between head and end.
 type Drawn = (&'static str, &'static str, &'static str, &'static str);
 
-const DRAWN: [Drawn; 39] = [
+const DRAWN: [Drawn; 40] = [
     // an empty paper: its margins alone
     ("", "64", "64", ""),
     // a row, 24 dots high, with its base line three quarters down, and a feed of 30 dots from its upper edge
@@ -254,6 +254,13 @@ const DRAWN: [Drawn; 39] = [
         "66",
         "66",
         "<g class=\"raster\" transform=\"translate(512,32)\"><g transform=\"scale(2,2)\">\n<path d=\"M0 0.5m7 0h1h1m7 0\"/>\n</g></g>\n",
+    ),
+    // graphics, printed where they are printed and not where they are stored: the last of 12 dots in two bytes
+    (
+        "1D 28 4C 0C 00 30 70 30 02 01 31 0C 00 01 00 00 10 1B 61 02 1D 28 4C 02 00 30 32",
+        "65",
+        "65",
+        "<g class=\"raster\" transform=\"translate(512,32)\"><g transform=\"scale(2,1)\">\n<path d=\"M0 0.5m8 0m3 0h1m4 0\"/>\n</g></g>\n",
     ),
     // a barcode in the middle of its text: 55123457 by the GS1 table, three dots a module, 60 dots high, its text in font B below
     (

@@ -278,14 +278,14 @@ fn taken_and_refused(rt: &impl Abort, alloc: Global, help: &str) -> (u32, u32) {
     (taken, refused)
 }
 
-// Two lists of the help say which commands are taken. The first has the commands by their bytes: 21 are taken, and 75 are refused.
+// Two lists of the help say which commands are taken. The first has the commands by their bytes: 23 are taken, and 73 are refused.
 // The second has the 28 commands that only set something, one for each row of their table.
 #[test]
 fn help_has_what_is_taken_and_refused(rt: HostRuntime) {
     let mut room = [0; HELP_BYTES];
     let (taken, refused) = taken_and_refused(&rt, rt.alloc(), whole_help(&rt, &mut room));
-    assert!(rt; taken == 49, "21 and 28");
-    assert!(rt; refused == 75);
+    assert!(rt; taken == 51, "23 and 28");
+    assert!(rt; refused == 73);
 }
 
 // The help has the number and the name of a reason.

@@ -5,13 +5,13 @@ use escpos_test_jobs::{
     Row, passing_check_task, passing_render_task, performs_rows, raw_check_task, raw_render_task,
 };
 
-// A line, a buzzer, a stored picture that is printed, and a cut.
-const BUZZES: &[u8] = b"\x1B@Hi\n\x1BB\x02\x04\x1D(L\x02\x0002\x1DV\x00";
+// A line, a buzzer, a question about stored pictures, and a cut.
+const BUZZES: &[u8] = b"\x1B@Hi\n\x1BB\x02\x04\x1D(L\x02\x0003\x1DV\x00";
 
-const LISTED: [Row; 7] = [
+const LISTED: [Row; 9] = [
     (
         BUZZES,
-        b"0 init\n2 char 48\n3 char 69\n4 lf\n5 passed ESC B 02 04\n9 passed GS ( L 02 00 30 32\n16 cut 00\nend 19 pending 0\n",
+        b"0 init\n2 char 48\n3 char 69\n4 lf\n5 passed ESC B 02 04\n9 passed GS ( L 02 00 30 33\n16 cut 00\nend 19 pending 0\n",
         Status::Good,
     ),
     (
@@ -24,6 +24,17 @@ const LISTED: [Row; 7] = [
         b"\x10\x04\x07\x01",
         b"0 passed DLE EOT 07 01\nend 4 pending 0\n",
         Status::Good,
+    ),
+    // functions that are taken aren't passed over, with whatever follows them
+    (
+        b"\x1D(L\x0C\x000p0\x01\x011\x08\x00\x02\x00\xFF\x81\x1D(L\x02\x000\x02",
+        b"0 graphics 01 01 8 2\n17 graphicsprint 02\nend 24 pending 0\n",
+        Status::Good,
+    ),
+    (
+        b"\x1D8L\x0B\x00\x00\x000p4\x01\x011\x08\x00\x01\x00\xFF",
+        b"fault 9 3 BadParameter\n",
+        Status::Refused,
     ),
     // the start of one
     (

@@ -147,7 +147,7 @@ const CHECKED: [Row; 37] = [
     // letters beside k
     (b"1D286A", b"fault 2 2 UnknownCommand\n", Status::Refused),
     (b"1D286C", b"fault 2 2 UnknownCommand\n", Status::Refused),
-    (b"1D284C", b"fault 2 2 UnknownCommand\n", Status::Refused),
+    (b"1D284D", b"fault 2 2 UnknownCommand\n", Status::Refused),
     // half commands
     (b"1D286B", b"end 3 pending 3\n", Status::Refused),
     (b"1D286BB41B", b"end 5 pending 5\n", Status::Refused),

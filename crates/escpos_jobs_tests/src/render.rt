@@ -54,7 +54,7 @@ fn rows_of_render(rt: HostRuntime) {
     assert!(&rt; performs_rows(rt.alloc(), render_task(), &RENDERED, &[1, 4096]));
 }
 
-const RENDERED_CONTENTS: [Row; 28] = [
+const RENDERED_CONTENTS: [Row; 32] = [
     // ean13
     (
         b"1D 6B 02 34 30 30 36 33 38 31 33 33 33 39 33 00",
@@ -87,6 +87,28 @@ const RENDERED_CONTENTS: [Row; 28] = [
     (
         b"41 1D 76 30 00 01 00 01 00 FF",
         b"row left A\nfeed 1\nraster left normal 1 1 ff\n",
+        Status::Good,
+    ),
+    // graphics: printed once, in the long form too, and not where none are stored
+    (
+        b"41 1D 28 4C 0C 00 30 70 30 01 01 31 08 00 02 00 F0 0F 1D 28 4C 02 00 30 32 1D 28 4C 02 00 30 32",
+        b"row left A\nfeed 1\nraster left normal 1 2 f00f\n",
+        Status::Good,
+    ),
+    (
+        b"1D 38 4C 0C 00 00 00 30 70 30 02 02 31 0C 00 01 00 A5 F0 1B 61 01 1D 28 4C 02 00 30 02",
+        b"raster center both 2 1 a5f0\n",
+        Status::Good,
+    ),
+    (
+        b"41 1D 28 4C 02 00 30 32 42 0A",
+        b"row left AB\nfeed 1\n",
+        Status::Good,
+    ),
+    // a store of other dots than its size's is ignored
+    (
+        b"41 1D 28 4C 0B 00 30 70 30 01 01 31 08 00 02 00 F0 1D 28 4C 02 00 30 32 42 0A",
+        b"row left AB\nfeed 1\n",
         Status::Good,
     ),
     // cuts of every form

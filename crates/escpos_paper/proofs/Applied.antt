@@ -4,12 +4,13 @@ use Rattle.escpos_paper.specs.declared.item.Item.{Item}
 use Rattle.escpos_paper.specs.Cells.{Placed}
 use Rattle.escpos_paper.specs.declared.paper.Paper.{Paper}
 use Rattle.escpos_paper.specs.declared.style.Settings.{Settings}
-use Rattle.std.specs.Prelude.{ℕ, Option}
+use Rattle.std.specs.Prelude.{ℕ}
 use Rattle.escpos_command.specs.declared.command.Command.{Command}
 use Rattle.escpos_command.specs.CommandTable.{IsCommand, AreCommands}
 use Rattle.escpos_paper.specs.Page.{Sheet}
+use Rattle.escpos_paper.specs.Storage.{Storage}
 use Rattle.escpos_paper.specs.Torn.{below}
-use Rattle.escpos_paper.specs.Steps.{step_prints, sheet_after, sheet_after_all, sheet_on}
+use Rattle.escpos_paper.specs.Steps.{step_prints, sheet_after, sheet_after_all, sheet_on, storage_on}
 use Rattle.escpos_paper.proofs.Sheets.{sheet_of, sheet_step}
 use Rattle.escpos_paper.proofs.Widths.{IsWidth, height_in_range, width_in_range}
 
@@ -26,15 +27,15 @@ one_more [] c h k = (k, tt)
 one_more (d ∷ cs) c h k = (h.0, one_more cs c h.1 k)
 
 -- The sheet of a paper that has these parts.
-pub sheet_made : (paper : Paper) (width : ℕ) (items : List Item) (settings : Settings) (kept_data : Option (List ℕ)) (stops : List ℕ) (line : Placed)
-    → paper.line_width ≡ width → paper.items.items ≡ items → paper.settings ≡ settings → paper.store.stored ≡ kept_data → paper.stops ≡ stops → paper.line ≡ line
-    → sheet_on paper ≡ record { line_dots = width; items = items; settings = settings; stored = kept_data; stops = stops; line = line }
+pub sheet_made : (paper : Paper) (width : ℕ) (items : List Item) (settings : Settings) (kept_data : Storage) (stops : List ℕ) (line : Placed)
+    → paper.line_width ≡ width → paper.items.items ≡ items → paper.settings ≡ settings → storage_on paper ≡ kept_data → paper.stops ≡ stops → paper.line ≡ line
+    → sheet_on paper ≡ record { line_dots = width; items = items; settings = settings; storage = kept_data; stops = stops; line = line }
 sheet_made paper width items settings kept_data stops line e p q r s v = cc
 
 -- A step is the same below any items.
 pub step_below : (gone : List Item) (sheet : Sheet) (c : Command) → below gone (sheet_after sheet c) ≡ sheet_after (below gone sheet) c
 step_below gone sheet c =
-    let above = append_assoc gone sheet.items (step_prints sheet.line_dots sheet.settings sheet.stored sheet.line c) in
+    let above = append_assoc gone sheet.items (step_prints sheet.line_dots sheet.settings sheet.storage sheet.line c) in
     cc above
 
 -- ## Several commands, one after another

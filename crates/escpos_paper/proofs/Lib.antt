@@ -1,3 +1,4 @@
+pub mod SettingParts
 pub mod OneMore
 pub mod Fits
 pub mod Entries
@@ -12,6 +13,7 @@ pub mod AllCuts
 pub mod Sheets
 pub mod Applied
 pub mod Initialisation
+pub mod PowerOn
 pub mod Bare
 pub mod Above
 pub mod Worked

@@ -9,13 +9,14 @@ use Rattle.escpos_command.specs.declared.command.Command.{Command}
 use Rattle.escpos_command.specs.Text.{text, text_after, ends_line, ends_later, characters}
 use Rattle.escpos_paper.specs.declared.style.Style.{Style}
 use Rattle.escpos_paper.specs.OverPlaces.{over_places}
-use Rattle.escpos_paper.specs.Styles.{acts_at_line_start, is_empty, power_on, placing, power_on_settings, settings, stops, stops_at, style, sets_margin, sets_area, sets_stops, sets_turned, usual_stops, sets_qr_model, sets_qr_size, sets_correction, if_it_counts, commands_that_count, sets_alignment, sets_upside_down, sets_spacing, sets_table, sets_font, sets_width, sets_height, sets_bold, sets_underline, sets_strike, sets_reverse, sets_character_set, sets_character_spacing, sets_color, sets_bar_height, sets_module_width, sets_hri_place, sets_hri_font, set_after, style_after}
+use Rattle.escpos_paper.specs.Styles.{acts_at_line_start, bar_style, line_style, qr_style, is_empty, power_on, placing, power_on_settings, settings, stops, stops_at, style, sets_margin, sets_area, sets_stops, sets_turned, usual_stops, sets_qr_model, sets_qr_size, sets_correction, if_it_counts, commands_that_count, sets_alignment, sets_upside_down, sets_spacing, sets_table, sets_font, sets_width, sets_height, sets_bold, sets_underline, sets_strike, sets_reverse, sets_character_set, sets_character_spacing, sets_color, sets_bar_height, sets_module_width, sets_hri_place, sets_hri_font, set_after, style_after}
 use Rattle.escpos_command.specs.Settings.{last_or, setting}
 use Rattle.escpos_command.proofs.Lines.{ends_later-snoc}
 use Rattle.escpos_command.proofs.Settings.{or_false, or_true, setting-snoc}
 use Rattle.escpos_paper.specs.Cells.{Move, bytes_of_entry, entries, entries_of, entry_at, go, go_of, move_of, put, put_of}
 use Rattle.escpos_paper.specs.Dots.{area_dots}
-use Rattle.escpos_paper.specs.Steps.{placing_after, set_at_start, settings_after}
+use Rattle.escpos_paper.specs.Steps.{bar_style_after, line_style_after, placing_after, qr_style_after, set_at_start, settings_after}
+use Rattle.escpos_paper.proofs.SettingParts.{same_lines, same_settings}
 
 -- ## Attributes
 
@@ -147,20 +148,27 @@ stops-snoc cs c =
 
 -- ## All settings
 
-pub settings-snoc : (cs : List Command) (c : Command) → settings (cs ++ c ∷ []) ≡ settings_after (is_empty (text cs)) (settings cs) c
-settings-snoc cs c =
+bars-snoc : (cs : List Command) (c : Command) → bar_style (cs ++ c ∷ []) ≡ bar_style_after (bar_style cs) c
+bars-snoc cs c =
     cc (
-      style-snoc cs c,
       setting-snoc sets_bar_height power_on_settings.bars.height cs c,
       setting-snoc sets_module_width power_on_settings.bars.module_width cs c,
       setting-snoc sets_hri_place power_on_settings.bars.place cs c,
       setting-snoc sets_hri_font power_on_settings.bars.hri_font cs c,
-      at_start-snoc sets_alignment power_on_settings.lines.alignment.side cs c,
-      at_start-snoc sets_margin power_on_settings.lines.alignment.margin cs c,
-      at_start-snoc sets_area power_on_settings.lines.alignment.width cs c,
-      at_start-snoc sets_upside_down power_on_settings.lines.upside_down cs c,
-      setting-snoc sets_spacing power_on_settings.lines.spacing cs c,
+    )
+
+lines-snoc : (cs : List Command) (c : Command) → line_style (cs ++ c ∷ []) ≡ line_style_after (is_empty (text cs)) (line_style cs) c
+lines-snoc cs c =
+    same_lines (placing-snoc cs c) (at_start-snoc sets_upside_down power_on_settings.lines.upside_down cs c)
+    (setting-snoc sets_spacing power_on_settings.lines.spacing cs c)
+
+codes-snoc : (cs : List Command) (c : Command) → qr_style (cs ++ c ∷ []) ≡ qr_style_after (qr_style cs) c
+codes-snoc cs c =
+    cc (
       setting-snoc sets_qr_model power_on_settings.codes.model cs c,
       setting-snoc sets_qr_size power_on_settings.codes.size cs c,
       setting-snoc sets_correction power_on_settings.codes.correction cs c,
     )
+
+pub settings-snoc : (cs : List Command) (c : Command) → settings (cs ++ c ∷ []) ≡ settings_after (is_empty (text cs)) (settings cs) c
+settings-snoc cs c = same_settings (style-snoc cs c) (bars-snoc cs c) (lines-snoc cs c) (codes-snoc cs c)

@@ -1,6 +1,6 @@
 -- Commands of the second profile print items of the second profile.
 use Rattle.std.proofs.Common.{◌≡◌, ℕ, List, [], ◌∷◌, ◌++◌, length, ap, sym, subst, refl, arith, Bool, true, false, cond, IsTrue}
-use Rattle.std.specs.Prelude.{nat_le, nat_lt, Option, None}
+use Rattle.std.specs.Prelude.{nat_le, nat_lt, None}
 use Rattle.std.specs.List.{AllByRecursion}
 use Rattle.std.proofs.lemmas.Bool.{leb-true}
 use Rattle.std.proofs.lemmas.Bool.Decides.{nat_tests}
@@ -9,7 +9,6 @@ use Rattle.escpos_command.specs.declared.command.Command.TheVariants as kind
 use Rattle.escpos_command.specs.declared.setting.SettingKind.TheVariants as sets
 use Rattle.escpos_command.specs.EarlierProfiles.{in_profile, since, symbology_since}
 use Rattle.escpos_command.specs.SettingTable.{table}
-use Rattle.escpos_command.specs.Settings.{stored}
 use Rattle.escpos_paper.specs.declared.cell.Cell.{Cell}
 use Rattle.escpos_paper.specs.declared.item.Item.{Item}
 use Rattle.escpos_paper.specs.declared.style.LineStyle.{LineStyle}
@@ -22,6 +21,7 @@ use Rattle.escpos_paper.specs.Printed.{printed, prints, row_and_feed, row_of}
 use Rattle.escpos_paper.specs.Rows.{line, placed, rows}
 use Rattle.escpos_paper.specs.SecondPaper.{IsSecondCell, IsSecondItem, IsWholeLine}
 use Rattle.escpos_paper.specs.Steps.{area_of, has_room, line_after, line_style_after}
+use Rattle.escpos_paper.specs.Storage.{Storage, storage}
 use Rattle.escpos_paper.specs.Styles.{is_empty, line_style, settings, stops, style, style_after}
 use Rattle.escpos_paper.proofs.OneMore.{style-snoc}
 use Rattle.escpos_paper.proofs.Sheets.{placed-snoc, settings_step}
@@ -73,24 +73,25 @@ with_one : (row : List Cell) (x y : Cell) (there : Bool) → AreCells row → Is
 with_one row x y true h k l = and_one row x h k
 with_one row x y false h k l = (l, tt)
 
-line_stays : (w : ℕ) (s : Settings) (ns : List ℕ) (old_data : Option (List ℕ)) (p : Placed) (c : Command) → IsTrue (in_profile 2 c) → IsTrue (has_six_fields s.text) → IsSecondLine p
-    → IsSecondLine (line_after w s ns old_data p c)
-line_stays w s ns old_data p (kind.Char b) i h k = record {
+line_stays : (w : ℕ) (s : Settings) (ns : List ℕ) (now : Storage) (p : Placed) (c : Command) → IsTrue (in_profile 2 c) → IsTrue (has_six_fields s.text) → IsSecondLine p
+    → IsSecondLine (line_after w s ns now p c)
+line_stays w s ns now p (kind.Char b) i h k = record {
   cells = with_one p.cells (placed_cell p.moved (cell s.text b)) (cell s.text b) (has_room (area_of w s) p (cell s.text b)) k.cells (h, k.follows) (h, refl);
   follows = refl;
 }
-line_stays w s ns old_data p kind.LineFeed i h k = record { cells = tt; follows = refl }
-line_stays w s ns old_data p (kind.FeedLines n) i h k = record { cells = tt; follows = refl }
-line_stays w s ns old_data p (kind.FeedUnits n) i h k = record { cells = tt; follows = refl }
-line_stays w s ns old_data p kind.Init i h k = record { cells = tt; follows = refl }
-line_stays w s ns old_data p (kind.Bars bars) i h k = record { cells = tt; follows = refl }
-line_stays w s ns old_data p (kind.Raster raster) i h k = record { cells = tt; follows = refl }
-line_stays w s ns old_data p (kind.Cut how) i h k = record { cells = tt; follows = refl }
-line_stays w s ns old_data p (kind.OldCut b) i h k = absurd cc
-line_stays w s ns old_data p kind.QrPrint i h k = absurd cc
-line_stays w s ns old_data p kind.Tab i h k = absurd cc
-line_stays w s ns old_data p (kind.Position q) i h k = absurd cc
-line_stays w s ns old_data p c i h k = k
+line_stays w s ns now p kind.LineFeed i h k = record { cells = tt; follows = refl }
+line_stays w s ns now p (kind.FeedLines n) i h k = record { cells = tt; follows = refl }
+line_stays w s ns now p (kind.FeedUnits n) i h k = record { cells = tt; follows = refl }
+line_stays w s ns now p kind.Init i h k = record { cells = tt; follows = refl }
+line_stays w s ns now p (kind.Bars bars) i h k = record { cells = tt; follows = refl }
+line_stays w s ns now p (kind.Raster raster) i h k = record { cells = tt; follows = refl }
+line_stays w s ns now p (kind.Cut how) i h k = record { cells = tt; follows = refl }
+line_stays w s ns now p (kind.OldCut b) i h k = absurd cc
+line_stays w s ns now p kind.QrPrint i h k = absurd cc
+line_stays w s ns now p (kind.GraphicsPrint fn) i h k = absurd cc
+line_stays w s ns now p kind.Tab i h k = absurd cc
+line_stays w s ns now p (kind.Position q) i h k = absurd cc
+line_stays w s ns now p c i h k = k
 
 lines_stay : (is_line_empty : Bool) (lines : LineStyle) (c : Command) → IsTrue (in_profile 2 c) → IsPlain lines → IsPlain (line_style_after is_line_empty lines c)
 unfolding table
@@ -110,7 +111,7 @@ lines_stay false lines c k h = record { upright = h.upright; default = h.default
 one_further : (w : ℕ) (cs : List Command) (c : Command) → IsTrue (in_profile 2 c) → IsSecond w cs → IsSecond w (cs ++ c ∷ [])
 one_further w cs c k h = record {
   six = subst (λ s. IsTrue (has_six_fields s)) (sym (style-snoc cs c)) (style_stays (style cs) c k h.six);
-  in_line = subst IsSecondLine (sym (placed-snoc w cs c)) (line_stays w (settings cs) (stops cs) (stored cs) (placed w cs) c k h.six h.in_line);
+  in_line = subst IsSecondLine (sym (placed-snoc w cs c)) (line_stays w (settings cs) (stops cs) (storage cs) (placed w cs) c k h.six h.in_line);
   plain = subst IsPlain (sym (ap (λ (s : Settings). s.lines) (settings_step w cs c))) (lines_stay (is_empty (line w cs)) (line_style cs) c k h.plain);
 }
 
@@ -148,6 +149,7 @@ prints_second w before (kind.QrSize n) h s = absurd cc
 prints_second w before (kind.QrLevel n) h s = absurd cc
 prints_second w before (kind.QrStore bytes) h s = absurd cc
 prints_second w before kind.QrPrint h s = absurd cc
+prints_second w before (kind.GraphicsPrint fn) h s = absurd cc
 prints_second w before c h s = tt
 
 after : (w : ℕ) (before cs : List Command) → AllByRecursion (λ c. IsTrue (in_profile 2 c)) cs → IsSecond w before → AreSecond (over_places (λ b c following. prints w b c) before cs)

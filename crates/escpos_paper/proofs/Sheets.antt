@@ -4,7 +4,7 @@ use Rattle.std.specs.Prelude.{◌&&◌, ◌-◌, not, nat_lt, Option, None, Some
 use Rattle.std.proofs.Math.Seq.{append_snoc}
 use Rattle.std.proofs.lemmas.Grind.{flat_map-append}
 use Rattle.escpos_command.specs.declared.command.Command.{Command}
-use Rattle.escpos_command.specs.declared.command.Command.TheVariants.{Char, LineFeed, Init, FeedLines, FeedUnits, Bars, Raster, QrPrint, Cut, OldCut, Tab, Position, Set}
+use Rattle.escpos_command.specs.declared.command.Command.TheVariants.{Char, LineFeed, Init, FeedLines, FeedUnits, Bars, Raster, QrPrint, GraphicsPrint, Cut, OldCut, Tab, Position, Set}
 use Rattle.escpos_command.specs.declared.parameter.position.PositionKind.TheVariants as position
 use Rattle.escpos_command.specs.declared.setting.SettingKind.TheVariants as sets
 use Rattle.escpos_command.specs.Text.{text, ends_line, is_some}
@@ -13,13 +13,14 @@ use Rattle.escpos_paper.specs.declared.item.Item.{Item}
 use Rattle.escpos_paper.specs.declared.style.Style.{Style}
 use Rattle.escpos_paper.specs.Dots.{area_dots, lesser_width}
 use Rattle.escpos_paper.specs.Styles.{acts_at_line_start, is_empty, placing, power_on_settings, set_after, sets_alignment, sets_area, sets_margin, stops, style, line_style, settings}
-use Rattle.escpos_command.specs.Settings.{last_or, stored}
+use Rattle.escpos_command.specs.Settings.{last_or, stored, stored_graphics}
 use Rattle.escpos_paper.specs.Cells.{Entry, Move, Placed, bytes_of_entry, cell, entries, entries_of, go, nothing_placed, placed_row, put, relative_move, stop, to}
 use Rattle.escpos_paper.specs.Rows.{area, fits, row_fits, rows, line, placed}
 use Rattle.escpos_paper.specs.Printed.{prints, printed, row_and_feed}
 use Rattle.escpos_paper.specs.Page.{Sheet}
-use Rattle.escpos_paper.specs.Steps.{has_room, moved_by, placing_after, with_cell, with_next, settings_after, line_after, step_prints, sheet_after}
-use Rattle.escpos_command.proofs.Settings.{stored-snoc}
+use Rattle.escpos_paper.specs.Storage.{storage}
+use Rattle.escpos_paper.specs.Steps.{has_room, moved_by, placing_after, with_cell, with_next, settings_after, line_after, step_prints, sheet_after, storage_after}
+use Rattle.escpos_command.proofs.Settings.{graphics-snoc, stored-snoc}
 use Rattle.escpos_paper.proofs.OneMore.{bytes_of_entries, entries-snoc, placing-snoc, settings-snoc, stops-snoc, over-snoc}
 use Rattle.escpos_paper.proofs.Entries.{characters_in, empty_row, moves_fit, one_entry_fits, snoc_entry, some_character}
 use Rattle.escpos_paper.proofs.Filled.{filled, filled_from}
@@ -88,10 +89,11 @@ entries_kept w cs c h none =
 placed_kept : (w : ℕ) (cs : List Command) (c : Command) → sets_width c ≡ false → ends_line cs c ≡ false → entries_of w cs c ≡ [] → placed w (cs ++ c ∷ []) ≡ placed w cs
 placed_kept w cs c a h none = placed_so w cs c (entries w cs) a (entries_kept w cs c h none) ∙ sym (placed_filled w cs)
 
--- A QR code is printed if data is stored.
-placed_at_print : (w : ℕ) (cs : List Command) (there : Bool) → is_some (stored cs) ≡ there → placed w (cs ++ QrPrint ∷ []) ≡ cond there nothing_placed (placed w cs)
-placed_at_print w cs true h = placed_ended w cs QrPrint (entries-snoc w cs QrPrint ∙ ap (λ b. cond b [] (entries w cs) ++ []) h)
-placed_at_print w cs false h = placed_kept w cs QrPrint refl h refl
+-- A command that ends the line only if something is stored.
+placed_at_print : (w : ℕ) (cs : List Command) (c : Command) (there : Bool) → sets_width c ≡ false → entries_of w cs c ≡ [] → ends_line cs c ≡ there
+    → placed w (cs ++ c ∷ []) ≡ cond there nothing_placed (placed w cs)
+placed_at_print w cs c true keeps none h = placed_ended w cs c (entries-snoc w cs c ∙ ap (λ b. cond b [] (entries w cs) ++ entries_of w cs c) h ∙ none)
+placed_at_print w cs c false keeps none h = placed_kept w cs c keeps h none
 
 -- A character.
 abbrev pub with_character : Bool → Placed → Cell → Placed
@@ -164,7 +166,7 @@ ignored w cs c acts h = same_area w cs c (by_rule (acts_at_line_start c) (is_emp
     by_rule true true e f = absurd cc
     by_rule false v e f = absurd cc
 
-pub placed-snoc : (w : ℕ) (cs : List Command) (c : Command) → placed w (cs ++ c ∷ []) ≡ line_after w (settings cs) (stops cs) (stored cs) (placed w cs) c
+pub placed-snoc : (w : ℕ) (cs : List Command) (c : Command) → placed w (cs ++ c ∷ []) ≡ line_after w (settings cs) (stops cs) (storage cs) (placed w cs) c
 placed-snoc w cs (Char b) = placed_at_character w cs b
 placed-snoc w cs Tab = placed_at_move w cs Tab (stop (stops cs)) refl refl refl
 placed-snoc w cs (Position (position.Absolute, n)) = placed_at_move w cs (Position (position.Absolute, n)) (to n) refl refl refl
@@ -183,12 +185,13 @@ placed-snoc w cs (Raster raster) = placed_ended w cs (Raster raster) (entries-sn
 placed-snoc w cs Init = placed_ended w cs Init (entries-snoc w cs Init)
 placed-snoc w cs (Cut how) = placed_ended w cs (Cut how) (entries-snoc w cs (Cut how))
 placed-snoc w cs (OldCut b) = placed_ended w cs (OldCut b) (entries-snoc w cs (OldCut b))
-placed-snoc w cs QrPrint = placed_at_print w cs (is_some (stored cs)) refl
+placed-snoc w cs QrPrint = placed_at_print w cs QrPrint (is_some (stored cs)) refl refl refl
+placed-snoc w cs (GraphicsPrint fn) = placed_at_print w cs (GraphicsPrint fn) (is_some (stored_graphics cs)) refl refl refl
 placed-snoc w cs c = placed_kept w cs c refl refl refl
 
 -- ## The paper
 
-pub prints_step : (w : ℕ) (cs : List Command) (c : Command) → prints w cs c ≡ step_prints w (settings cs) (stored cs) (placed w cs) c
+pub prints_step : (w : ℕ) (cs : List Command) (c : Command) → prints w cs c ≡ step_prints w (settings cs) (storage cs) (placed w cs) c
 prints_step w cs (Char b) =
     let a = area w cs in
     let es = entries w cs in
@@ -207,9 +210,10 @@ prints_step w cs (Raster raster) = refl
 prints_step w cs (Cut how) = refl
 prints_step w cs (OldCut b) = refl
 prints_step w cs QrPrint = refl
+prints_step w cs (GraphicsPrint fn) = refl
 prints_step w cs c = refl
 
-pub printed-snoc : (w : ℕ) (cs : List Command) (c : Command) → printed w (cs ++ c ∷ []) ≡ printed w cs ++ step_prints w (settings cs) (stored cs) (placed w cs) c
+pub printed-snoc : (w : ℕ) (cs : List Command) (c : Command) → printed w (cs ++ c ∷ []) ≡ printed w cs ++ step_prints w (settings cs) (storage cs) (placed w cs) c
 printed-snoc w cs c =
     over-snoc (λ before d following. prints w before d) (λ before d following. prints w before d) [] cs c (λ b d following. refl)
     ∙ ap (λ t. printed w cs ++ t) (prints_step w cs c)
@@ -220,16 +224,19 @@ pub settings_step : (w : ℕ) (cs : List Command) (c : Command) → settings (cs
 settings_step w cs c = settings-snoc cs c ∙ ap (λ b. settings_after b (settings cs) c) (sym (empty_line w cs))
 
 items_step : (w : ℕ) (kept : List Item) (cs : List Command) (c : Command)
-    → kept ++ printed w (cs ++ c ∷ []) ≡ (kept ++ printed w cs) ++ step_prints w (settings cs) (stored cs) (placed w cs) c
+    → kept ++ printed w (cs ++ c ∷ []) ≡ (kept ++ printed w cs) ++ step_prints w (settings cs) (storage cs) (placed w cs) c
 items_step w kept cs c =
-    ap (λ t. kept ++ t) (printed-snoc w cs c) ∙ sym (append_assoc kept (printed w cs) (step_prints w (settings cs) (stored cs) (placed w cs) c))
+    ap (λ t. kept ++ t) (printed-snoc w cs c) ∙ sym (append_assoc kept (printed w cs) (step_prints w (settings cs) (storage cs) (placed w cs) c))
+
+storage-snoc : (cs : List Command) (c : Command) → storage (cs ++ c ∷ []) ≡ storage_after (storage cs) c
+storage-snoc cs c = cc (stored-snoc cs c, graphics-snoc cs c)
 
 -- The sheet of a list of commands.
 abbrev pub sheet_of : ℕ → List Item → List Command → Sheet
-sheet_of w kept cs = record { line_dots = w; items = kept ++ printed w cs; settings = settings cs; stored = stored cs; stops = stops cs; line = placed w cs }
+sheet_of w kept cs = record { line_dots = w; items = kept ++ printed w cs; settings = settings cs; storage = storage cs; stops = stops cs; line = placed w cs }
 
 pub sheet-snoc : (w : ℕ) (kept : List Item) (cs : List Command) (c : Command) → sheet_of w kept (cs ++ c ∷ []) ≡ sheet_after (sheet_of w kept cs) c
-sheet-snoc w kept cs c = cc (items_step w kept cs c, settings_step w cs c, stored-snoc cs c, stops-snoc cs c, placed-snoc w cs c)
+sheet-snoc w kept cs c = cc (items_step w kept cs c, settings_step w cs c, storage-snoc cs c, stops-snoc cs c, placed-snoc w cs c)
 
 -- So a step from the sheet of some commands leads to the sheet of one more.
 pub sheet_step : (w : ℕ) (old new : Sheet) (kept : List Item) (cs : List Command) (c : Command)

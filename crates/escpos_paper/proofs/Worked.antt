@@ -3,15 +3,18 @@ use Rattle.std.proofs.Common.{◌≡◌, ℕ, [], ◌∷◌, ◌++◌, refl, ap,
 use Rattle.std.specs.Prelude.{◌-◌, None, Some, replicate, map, length}
 use Rattle.escpos_command.specs.declared.command.Command.{Command}
 use Rattle.escpos_command.specs.declared.setting.SettingKind.{SettingKind}
-use Rattle.escpos_command.specs.declared.command.Command.TheVariants.{Char, Tab, Position, TabStops, LineFeed, Init, Set, FeedLines, FeedUnits, Pulse, Bars, Raster, Cut}
+use Rattle.escpos_command.specs.declared.command.Command.TheVariants.{Char, Tab, Position, TabStops, LineFeed, Init, Set, FeedLines, FeedUnits, Pulse, Bars, Raster, GraphicsStore, GraphicsPrint, Cut}
 use Rattle.escpos_command.specs.declared.setting.SettingKind.TheVariants as sets
 use Rattle.escpos_command.specs.declared.parameter.choices.FontFace.TheVariants.{A, B}
 use Rattle.escpos_command.specs.declared.parameter.choices.HriPosition.TheVariants.{Nowhere, Below}
-use Rattle.escpos_command.specs.declared.parameter.choices.Scale.TheVariants.{Normal}
+use Rattle.escpos_command.specs.declared.parameter.choices.Scale.TheVariants.{Normal, Wide}
 use Rattle.escpos_command.specs.declared.bars.Form.TheVariants as form
 use Rattle.escpos_command.specs.declared.bars.Symbology.TheVariants.{Ean13, Itf}
 use Rattle.escpos_command.specs.Barcodes.{barcode}
 use Rattle.escpos_command.specs.Rasters.{picture}
+use Rattle.escpos_command.specs.Graphics.{stored_picture}
+use Rattle.escpos_command.specs.declared.graphics.GraphicsHead.{GraphicsHead}
+use Rattle.escpos_command.specs.declared.graphics.GraphicsForm.TheVariants.{Short}
 use Rattle.escpos_command.specs.declared.parameter.choices.Alignment.{Alignment}
 use Rattle.escpos_command.specs.declared.parameter.choices.Alignment.TheVariants.{Left, Center}
 use Rattle.escpos_command.specs.declared.parameter.position.PositionKind.TheVariants as position
@@ -171,6 +174,17 @@ bar_settings = refl
 raster_after_text : printed 512 (Char 0x41 ∷ Raster (picture 0 1 1 (0xFF ∷ [])) ∷ [])
     ≡ Row left false (cell power_on 0x41 ∷ []) ∷ Feed 1 None ∷ Dotted left Normal 1 1 (0xFF ∷ []) ∷ []
 raster_after_text = refl
+
+-- graphics are printed where a print comes after their store, and once; a store ends no line, and one of other dots than its size's leaves what
+-- was stored
+abbrev nine_dots : GraphicsHead
+nine_dots = record { form = Short; across = 2; down = 1; width = 9; height = 1 }
+
+graphics_once : printed 512 (GraphicsStore (stored_picture nine_dots (0xFF ∷ 0x80 ∷ [])) ∷ Char 0x41 ∷ GraphicsStore (stored_picture nine_dots (0xFF ∷ []))
+    ∷ GraphicsPrint 50 ∷ Char 0x42 ∷ GraphicsPrint 2 ∷ LineFeed ∷ [])
+    ≡ Row left false (cell power_on 0x41 ∷ []) ∷ Feed 1 None ∷ Dotted left Wide 2 1 (0xFF ∷ 0x80 ∷ [])
+    ∷ Row left false (cell power_on 0x42 ∷ []) ∷ Feed 1 None ∷ []
+graphics_once = refl
 
 -- at width 8 five characters of font A fit, and the sixth begins a row
 wide : printed 512 (set sets.Size 0x70 ∷ replicate 6 (Char 0x61) ++ LineFeed ∷ [])

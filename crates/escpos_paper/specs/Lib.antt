@@ -7,6 +7,7 @@ pub mod Rows
 pub mod Printed
 pub mod Typed
 pub mod QrStore
+pub mod Storage
 pub mod Page
 pub mod Torn
 pub mod Steps
@@ -14,3 +15,4 @@ pub mod ItemsText
 pub mod ItemParts
 pub mod FirstPaper
 pub mod SecondPaper
+pub mod PowerOn

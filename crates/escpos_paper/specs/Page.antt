@@ -1,23 +1,23 @@
 -- The model of a page, and which commands leave it.
-use Rattle.std.specs.Prelude.{ℕ, ◌≡◌, Bool, IsTrue, List, ◌++◌, Option, if◌then◌else◌}
+use Rattle.std.specs.Prelude.{ℕ, ◌≡◌, Bool, IsTrue, List, ◌++◌, if◌then◌else◌}
 use Rattle.escpos_command.specs.declared.command.Command.{Command}
 use Rattle.escpos_command.specs.CommandTable.{AreCommands}
 use Rattle.escpos_command.specs.LineWidths.{is_line_width}
-use Rattle.escpos_command.specs.Settings.{stored}
 use Rattle.escpos_paper.specs.declared.item.Item.{Item}
 use Rattle.escpos_paper.specs.declared.style.Settings.{Settings}
 use Rattle.escpos_paper.specs.Styles.{settings, stops}
 use Rattle.escpos_paper.specs.Rows.{placed}
 use Rattle.escpos_paper.specs.Cells.{Placed}
 use Rattle.escpos_paper.specs.Printed.{printed}
+use Rattle.escpos_paper.specs.Storage.{Storage, storage}
 
--- What commands leave: the dots of a line, which no command changes, the items on paper, the settings, the data of QR codes that is
--- stored, the tab stops, and the line that isn't printed yet, with where its next cell stands.
+-- What commands leave: the dots of a line, which no command changes, the items on paper, the settings, what is stored,
+-- the tab stops, and the line that isn't printed yet, with where its next cell stands.
 pub record Sheet : Type 0 where
   pub line_dots : ℕ
   pub items : List Item
   pub settings : Settings
-  pub stored : Option (List ℕ)
+  pub storage : Storage
   pub stops : List ℕ
   pub line : Placed
 
@@ -37,7 +37,7 @@ SheetIs width sheet kept cs = sheet ≡ record {
   line_dots = width;
   items = kept ++ printed width cs;
   settings = settings cs;
-  stored = stored cs;
+  storage = storage cs;
   stops = stops cs;
   line = placed width cs;
 }

@@ -3,9 +3,10 @@ use Rattle.std.specs.Prelude.{ℕ, nat_lt, true, List, [], ◌∷◌, ◌++◌, 
 use Rattle.escpos_command.specs.declared.command.Command.{Command}
 use Rattle.escpos_command.specs.declared.command.Command.TheVariants as kind
 use Rattle.escpos_paper.specs.declared.style.Placing.{Placing}
-use Rattle.escpos_command.specs.Meanings.{choice, leaves_a_point, scale_of}
+use Rattle.escpos_command.specs.Meanings.{choice, leaves_a_point, scale_by, scale_of}
 use Rattle.escpos_command.specs.Barcodes.{Barcode}
-use Rattle.escpos_command.specs.Settings.{stored}
+use Rattle.escpos_command.specs.Graphics.{StoredPicture, row_bytes}
+use Rattle.escpos_command.specs.Settings.{stored, stored_graphics}
 use Rattle.escpos_command.specs.Rasters.{Picture}
 use Rattle.escpos_paper.specs.declared.cell.Cell.{Cell}
 use Rattle.escpos_paper.specs.declared.item.Item.{Item}
@@ -47,7 +48,16 @@ abbrev pub prints_stored : LineStyle → QrStyle → Option (List ℕ) → List 
 prints_stored lines style None row = []
 prints_stored lines style (Some bytes) row = row_and_feed lines row ++ qr_item lines.alignment style bytes ∷ []
 
--- What a command prints after others. LF, ESC d and ESC J print the line and their feed; a barcode, a raster, a QR code
+-- Graphics as an item.
+abbrev pub graphics_item : Placing → StoredPicture → Item
+graphics_item align p = Raster align (scale_by p.head.across p.head.down) (row_bytes p.head.width) p.head.height p.dots
+
+-- The graphics that are stored, after the line; nothing if none are.
+abbrev pub prints_graphics : LineStyle → Option StoredPicture → List Cell → List Item
+prints_graphics lines None row = []
+prints_graphics lines (Some p) row = row_and_feed lines row ++ graphics_item lines.alignment p ∷ []
+
+-- What a command prints after others. LF, ESC d and ESC J print the line and their feed; a barcode, a raster, graphics, a QR code
 -- or a cut prints the line with a feed of one, then the item; a character that begins a row prints the line before it with a feed of
 -- one.
 abbrev pub prints : ℕ → List Command → Command → List Item
@@ -62,6 +72,8 @@ prints width before (kind.Raster raster) = row_and_feed (line_style before) (lin
 prints width before (kind.Cut cut) = row_and_feed (line_style before) (line width before) ++ Cut (leaves_a_point cut.0) cut.1 ∷ []
 prints width before (kind.OldCut b) = row_and_feed (line_style before) (line width before) ++ Cut true None ∷ []
 prints width before kind.QrPrint = prints_stored (line_style before) (qr_style before) (stored before) (line width before)
+prints width before (kind.GraphicsPrint fn) = prints_graphics (line_style before) (stored_graphics before) (line width before)
+prints width before (kind.GraphicsStore graphics) = []
 prints width before (kind.QrModel n) = []
 prints width before (kind.QrSize n) = []
 prints width before (kind.QrLevel n) = []

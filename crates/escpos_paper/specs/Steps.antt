@@ -17,10 +17,11 @@ use Rattle.escpos_paper.specs.declared.item.Item.TheVariants.{Feed, FeedUnits, C
 use Rattle.escpos_paper.specs.Dots.{area_dots}
 use Rattle.escpos_paper.specs.declared.style.Placing.{Placing}
 use Rattle.escpos_paper.specs.Styles.{acts_at_line_start, is_empty, power_on_settings, set_after, sets_stops, style_after, sets_alignment, sets_margin, sets_area, sets_upside_down, sets_spacing, sets_bar_height, sets_module_width, sets_hri_place, sets_hri_font, sets_qr_model, sets_qr_size, sets_correction}
-use Rattle.escpos_command.specs.Settings.{sets_stored}
+use Rattle.escpos_command.specs.Settings.{sets_graphics, sets_stored}
+use Rattle.escpos_paper.specs.Storage.{Storage}
 use Rattle.escpos_paper.specs.Cells.{Move, Placed, cell, move_of, moved_to, next_place, nothing_placed, place_after, placed_cell}
 use Rattle.escpos_paper.specs.Rows.{fits}
-use Rattle.escpos_paper.specs.Printed.{row_of, row_and_feed, bars_item, raster_item, prints_stored}
+use Rattle.escpos_paper.specs.Printed.{row_of, row_and_feed, bars_item, raster_item, prints_graphics, prints_stored}
 use Rattle.escpos_paper.specs.Page.{Sheet, PageView, room_for_items}
 
 abbrev pub bar_style_after : BarStyle → Command → BarStyle
@@ -84,13 +85,14 @@ moved_by area p (Some m) = moved_to p (place_after area (next_place p) m)
 abbrev pub area_of : ℕ → Settings → ℕ
 area_of width s = area_dots width s.lines.alignment
 
-abbrev pub line_after : ℕ → Settings → List ℕ → Option (List ℕ) → Placed → Command → Placed
+abbrev pub line_after : ℕ → Settings → List ℕ → Storage → Placed → Command → Placed
 line_after width s stops stored p (kind.Char b) = with_cell (area_of width s) p (cell s.text b)
-line_after width s stops stored p kind.QrPrint = if is_some stored then nothing_placed else p
+line_after width s stops stored p kind.QrPrint = if is_some stored.codes then nothing_placed else p
+line_after width s stops stored p (kind.GraphicsPrint fn) = if is_some stored.graphics then nothing_placed else p
 line_after width s stops stored p c = if ends_text c then nothing_placed else moved_by (area_of width s) p (move_of stops c)
 
 -- What it prints.
-abbrev pub step_prints : ℕ → Settings → Option (List ℕ) → Placed → Command → List Item
+abbrev pub step_prints : ℕ → Settings → Storage → Placed → Command → List Item
 step_prints width s stored p (kind.Char b) = if has_room (area_of width s) p (cell s.text b) then [] else row_and_feed s.lines p.cells
 step_prints width s stored p kind.LineFeed = row_of s.lines p.cells ++ Feed 1 s.lines.spacing ∷ []
 step_prints width s stored p (kind.FeedLines n) = row_of s.lines p.cells ++ Feed n s.lines.spacing ∷ []
@@ -99,8 +101,17 @@ step_prints width s stored p (kind.Bars barcode) = row_and_feed s.lines p.cells 
 step_prints width s stored p (kind.Raster raster) = row_and_feed s.lines p.cells ++ raster_item s.lines.alignment raster ∷ []
 step_prints width s stored p (kind.Cut cut) = row_and_feed s.lines p.cells ++ Cut (leaves_a_point cut.0) cut.1 ∷ []
 step_prints width s stored p (kind.OldCut b) = row_and_feed s.lines p.cells ++ Cut true None ∷ []
-step_prints width s stored p kind.QrPrint = prints_stored s.lines s.codes stored p.cells
+step_prints width s stored p kind.QrPrint = prints_stored s.lines s.codes stored.codes p.cells
+step_prints width s stored p (kind.GraphicsPrint fn) = prints_graphics s.lines stored.graphics p.cells
 step_prints width s stored p _ = []
+
+-- What is stored after one more command.
+abbrev pub storage_after : Storage → Command → Storage
+storage_after s c = record { codes = set_after sets_stored None s.codes c; graphics = set_after sets_graphics None s.graphics c }
+
+-- What a paper has stored.
+abbrev pub storage_on : Paper → Storage
+storage_on paper = record { codes = paper.store.stored; graphics = paper.graphics }
 
 -- What a paper has, as a sheet.
 abbrev pub sheet_on : Paper → Sheet
@@ -108,7 +119,7 @@ sheet_on paper = record {
   line_dots = paper.line_width;
   items = paper.items.items;
   settings = paper.settings;
-  stored = paper.store.stored;
+  storage = storage_on paper;
   stops = paper.stops;
   line = paper.line;
 }
@@ -121,11 +132,11 @@ page_on paper = record { sheet = sheet_on paper; room = room_for_items paper.sto
 abbrev pub sheet_after : Sheet → Command → Sheet
 sheet_after sheet c = record {
   line_dots = sheet.line_dots;
-  items = sheet.items ++ step_prints sheet.line_dots sheet.settings sheet.stored sheet.line c;
+  items = sheet.items ++ step_prints sheet.line_dots sheet.settings sheet.storage sheet.line c;
   settings = settings_after (is_empty sheet.line.cells) sheet.settings c;
-  stored = set_after sets_stored None sheet.stored c;
+  storage = storage_after sheet.storage c;
   stops = unwrap_or (sets_stops sheet.settings.text c) sheet.stops;
-  line = line_after sheet.line_dots sheet.settings sheet.stops sheet.stored sheet.line c;
+  line = line_after sheet.line_dots sheet.settings sheet.stops sheet.storage sheet.line c;
 }
 
 -- The sheet after these commands, one after another.

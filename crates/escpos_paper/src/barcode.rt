@@ -1,14 +1,14 @@
-//! Barcodes and rasters as items of the paper. Their bytes are moved there, not copied.
+//! Barcodes, rasters and graphics as items of the paper. Their bytes are moved there, not copied.
 
 ghost use Rattle.std.specs.Prelude.{◌≡◌};
 ghost use Rattle.escpos_paper.specs.CheckDigit.{lacks_check_digit, added_digit};
-ghost use Rattle.escpos_paper.specs.Printed.{bars_item, raster_item};
+ghost use Rattle.escpos_paper.specs.Printed.{bars_item, graphics_item, raster_item};
 
 use crate::content::{Content, Dots};
 use crate::digits::check_digit_of;
 use crate::item::Item;
 use crate::style::{BarStyle, Placing};
-use escpos_command::{Bars, Raster, Symbology};
+use escpos_command::{Bars, Graphics, Raster, Symbology};
 
 /// A barcode in these settings, with the check digit that its content lacks.
 pub fn bars_item(align: Placing, style: BarStyle, bars: Bars) -> Item
@@ -36,6 +36,19 @@ pub fn raster_item(align: Placing, raster: Raster) -> Item
         x: raster.width(),
         y: raster.height(),
         dots: Dots::of(raster),
+    }
+}
+
+/// Graphics.
+pub fn graphics_item(align: Placing, graphics: Graphics) -> Item
+    ensures { result ≡ graphics_item align graphics }
+{
+    Item::Raster {
+        align,
+        scale: graphics.scale(),
+        x: graphics.row_bytes(),
+        y: graphics.head().height,
+        dots: Dots::of_graphics(graphics),
     }
 }
 

@@ -1,10 +1,10 @@
-//! The bytes that a barcode, a raster or a QR code brings onto the paper. Those of barcodes and rasters are moved there from the
+//! The bytes that a barcode, a raster or a QR code brings onto the paper. Those of barcodes, rasters and graphics are moved there from the
 //! command and not copied; a QR code may be printed again, so the paper gets a copy.
 
 ghost use Rattle.std.specs.Prelude.{◌≡◌, ◌≤◌, length};
 ghost use Rattle.escpos_command.specs.QrCodes.{most_qr_data};
 
-use escpos_command::{Bars, Bytes, Raster};
+use escpos_command::{Bars, Bytes, Graphics, Raster};
 use std::marker::Model;
 
 #[cfg(test)]
@@ -58,7 +58,7 @@ impl Content {
     }
 }
 
-/// The dots of a raster, row by row from the top, eight to a byte: at most 524,160 bytes.
+/// The dots of a raster or of graphics, row by row from the top, eight to a byte: at most 524,160 bytes.
 #[derive(Debug, Drop)]
 pub struct Dots {
     dots: Bytes,
@@ -84,6 +84,17 @@ impl Dots {
         let _ = raster.dots();
         Dots {
             dots: raster.into_dots(),
+        }
+    }
+
+    /// The dots of graphics. Allocates nothing.
+    pub fn of_graphics(graphics: Graphics) -> Self
+        ensures { result ≡ graphics.dots }
+    {
+        // Proof only: the graphics are in range, so their dots have at most 524,160 bytes.
+        let _ = graphics.dots();
+        Dots {
+            dots: graphics.into_dots(),
         }
     }
 

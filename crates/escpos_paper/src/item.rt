@@ -37,7 +37,7 @@ pub enum Item {
         /// The check digit, 0 to 9, where the symbology has one and the content came without it.
         added: Option<u8>,
     },
-    /// A picture made of dots.
+    /// A picture made of dots: a raster, or graphics that were stored.
     Raster {
         align: Placing,
         scale: Scale,

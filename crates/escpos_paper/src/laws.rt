@@ -1,7 +1,7 @@
 //! Proof only: the laws of printing, each for lines of any width. The contract of each function is the law; when run, it does nothing. A law is proved
 //! with this crate, and another crate cites it by calling the function.
 
-ghost use Rattle.std.specs.Prelude.{◌≡◌, ◌<◌, ◌≤◌, ℕ, IsTrue, flat_map, None, List, [], ◌∷◌, ◌++◌};
+ghost use Rattle.std.specs.Prelude.{◌≡◌, ◌↔◌, ◌<◌, ◌≤◌, ℕ, IsTrue, flat_map, None, List, [], ◌∷◌, ◌++◌};
 ghost use Rattle.escpos_command.specs.declared.command.Command.{Command};
 ghost use Rattle.escpos_command.specs.declared.command.Command.TheVariants.{Init, LineFeed, Mark};
 ghost use Rattle.escpos_paper.specs.declared.item.Item.{Item};
@@ -12,8 +12,9 @@ ghost use Rattle.escpos_command.specs.Text.{text};
 ghost use Rattle.escpos_paper.specs.FirstPaper.{IsFirstItem};
 ghost use Rattle.escpos_paper.specs.SecondPaper.{IsSecondItem};
 ghost use Rattle.escpos_paper.specs.Styles.{is_empty, style, style_after, line_style};
-ghost use Rattle.escpos_paper.specs.Cells.{Entry, bytes_of_entry, entries};
-ghost use Rattle.escpos_paper.specs.Rows.{IsCut, area, fits, rows, line, moved};
+ghost use Rattle.escpos_paper.specs.Cells.{Entry, bytes_of_entry, entries, nothing_placed};
+ghost use Rattle.escpos_paper.specs.PowerOn.{AreAsAtPowerOn, LeavesAsNew, are_as_at_power_on, has_clear_line};
+ghost use Rattle.escpos_paper.specs.Rows.{IsCut, area, fits, rows, line, moved, placed};
 ghost use Rattle.escpos_paper.specs.Printed.{printed, row_of};
 ghost use Rattle.escpos_paper.specs.Typed.{IsTyping, typed, GoesOnLine, from_place};
 ghost use Rattle.escpos_paper.specs.Page.{Sheet, SheetIs};
@@ -66,6 +67,14 @@ pub fn line_feeds()
 /// Initialisation: what is printed after an Init is what a printer just switched on prints.
 pub fn initialisation()
     ensures { (width : ℕ) (a b : List Command) → printed width (a ++ Init ∷ [] ++ b) ≡ printed width a ++ printed width b }
+{}
+
+/// As new: what follows commands that leave a printer as one just switched on is printed as by that one. What they leave is tested part by
+/// part.
+pub fn left_as_new()
+    ensures prints { (width : ℕ) (cs more : List Command) → LeavesAsNew width cs → printed width (cs ++ more) ≡ printed width cs ++ printed width more }
+    ensures set { (cs : List Command) → IsTrue (are_as_at_power_on cs) ↔ AreAsAtPowerOn cs }
+    ensures line { (width : ℕ) (cs : List Command) → IsTrue (has_clear_line width cs) ↔ (placed width cs ≡ nothing_placed) }
 {}
 
 /// Marks: a mark prints nothing.

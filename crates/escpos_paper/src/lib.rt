@@ -6,7 +6,7 @@
 //!
 //! `page` has the page, and `paper` what one command does to the items, the settings and the line. `style` has the settings,
 //! `cell` a character in its style, `print_buffer` the line that isn't printed yet, and `item` what is printed. `barcode`
-//! makes items of barcodes and rasters, whose bytes `content` keeps without copying them, and `digits` has check digits.
+//! makes items of barcodes, rasters and graphics, whose bytes `content` keeps without copying them, and `digits` has check digits.
 //! `text` is the text of an item, `write` that of the paper. `laws` has what follows from the definitions.
 #![tactic(auto)]
 

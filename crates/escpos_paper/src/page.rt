@@ -5,18 +5,23 @@
 //! that these are what the definitions find by looking back in the whole list of commands. What each command does to them is left
 //! to `paper`; a page makes room for it. How wide a line is, is set when a page is made.
 
-ghost use Rattle.std.specs.Prelude.{◌≡◌, ◌+◌, ◌≤◌, ℕ, nat_le, IsOk, IfOk, IfErr, OnOk, OnErr, List, [], ◌∷◌, ◌++◌, length, map, take};
+ghost use Rattle.std.specs.Prelude.{◌≡◌, ◌↔◌, ◌+◌, ◌≤◌, ℕ, nat_le, None, IsOk, IsTrue, IfOk, IfErr, OnOk, OnErr, List, [], ◌∷◌, ◌++◌, length, map, option_map, take};
 ghost use Rattle.std.specs.List.{AllPass};
 ghost use Rattle.escpos_command.specs.declared.command.Command.{Command};
 ghost use Rattle.escpos_command.specs.declared.command.Command.TheVariants.{Char};
 ghost use Rattle.escpos_command.specs.Parameters.{is_character};
 ghost use Rattle.escpos_paper.specs.declared.item.Item.{Item};
+ghost use Rattle.escpos_paper.specs.Cells.{nothing_placed};
 ghost use Rattle.escpos_paper.specs.Page.{PageIs, IsReached};
+ghost use Rattle.escpos_paper.specs.PowerOn.{is_clear, is_sheet_set_as_new};
+ghost use Rattle.escpos_paper.specs.Storage.{nothing_stored};
+ghost use Rattle.escpos_paper.specs.Styles.{power_on_settings, usual_stops};
 ghost use Rattle.escpos_paper.specs.Torn.{TornIs, bare};
 
 use crate::item::Item;
 use crate::paper::{MOST_ITEMS, Paper};
-use escpos_command::{Command, LineWidth, laws};
+use crate::style::Settings;
+use escpos_command::{Command, LineWidth, QrData, laws};
 use std::alloc::{AllocError, Global};
 use std::marker::Model;
 
@@ -120,6 +125,41 @@ impl Page {
         ensures reached { IsReached self.now }
     {
         self.paper.items.as_slice()
+    }
+
+    /// The settings. Allocates nothing.
+    pub fn settings(&self) -> Settings
+        ensures { result ≡ self.now.sheet.settings }
+    {
+        self.paper.settings
+    }
+
+    /// The data that is stored for QR codes. Allocates nothing.
+    pub fn stored(&self) -> Option<&QrData>
+        ensures { option_map (λ data_now. data_now.now) result ≡ self.now.sheet.storage.codes }
+    {
+        self.paper.store.stored()
+    }
+
+    /// Whether the settings and the tab stops are those of a printer just switched on, and neither data for QR codes nor graphics are stored.
+    /// Allocates nothing.
+    pub fn is_set_as_new(&self) -> bool
+        ensures value { result ≡ is_sheet_set_as_new self.now.sheet }
+        ensures as_new { IsTrue result ↔ ((self.now.sheet.settings ≡ power_on_settings) × (self.now.sheet.storage ≡ nothing_stored)
+            × (self.now.sheet.stops ≡ usual_stops)) }
+    {
+        self.paper.settings.are_usual()
+            && self.paper.store.stored().is_none()
+            && self.paper.graphics.is_none()
+            && self.paper.stops.are_usual()
+    }
+
+    /// Whether the line has no character, and the next one stands at its beginning. Allocates nothing.
+    pub fn has_clear_line(&self) -> bool
+        ensures value { result ≡ is_clear self.now.sheet.line }
+        ensures clear { IsTrue result ↔ (self.now.sheet.line ≡ nothing_placed) }
+    {
+        self.paper.line.is_clear()
     }
 
     /// Drops what is printed on the paper. Settings, line and its width stay, and so does the room of what was dropped.

@@ -7,9 +7,9 @@
 ghost use Rattle.std.specs.Prelude.{◌≡◌, ◌+◌, ◌≤◌, ℕ, IsTrue, [], ◌∷◌, ◌++◌, length, map, take, if◌then◌else◌, None, true, vec_len, vec_capacity};
 ghost use Rattle.escpos_command.specs.declared.command.Command.TheVariants as kind;
 ghost use Rattle.escpos_command.specs.declared.command.Command.TheVariants.{Set};
-ghost use Rattle.escpos_command.specs.Settings.{sets_stored};
+ghost use Rattle.escpos_command.specs.Settings.{sets_graphics};
 ghost use Rattle.escpos_command.specs.Text.{is_some};
-ghost use Rattle.escpos_paper.specs.Printed.{row_of, row_and_feed, bars_item, raster_item, prints_stored};
+ghost use Rattle.escpos_paper.specs.Printed.{row_of, row_and_feed, bars_item, raster_item, prints_graphics, prints_stored};
 ghost use Rattle.escpos_paper.specs.declared.item.Item.TheVariants as item;
 ghost use Rattle.escpos_paper.specs.Rows.{fits};
 ghost use Rattle.escpos_paper.specs.Styles.{power_on_settings, is_empty, set_after, sets_stops, usual_stops};
@@ -17,9 +17,9 @@ ghost use Rattle.std.specs.Option.{unwrap_or};
 ghost use Rattle.escpos_command.specs.declared.line_width.TheConstants.{MOST_LINE_DOTS};
 ghost use Rattle.escpos_command.specs.declared.parameter.position.PositionKind.TheVariants as position;
 ghost use Rattle.escpos_paper.specs.Cells.{cell, nothing_placed};
-ghost use Rattle.escpos_paper.specs.Steps.{area_of, has_room, sheet_on, sheet_after_all, step_prints, settings_after, line_after, with_cell};
+ghost use Rattle.escpos_paper.specs.Steps.{area_of, has_room, sheet_on, sheet_after_all, step_prints, settings_after, storage_after, storage_on, line_after, with_cell};
 
-use crate::barcode::{bars_item, raster_item};
+use crate::barcode::{bars_item, graphics_item, raster_item};
 use crate::cell::Cell;
 use crate::item::Item;
 use crate::print_buffer::PrintBuffer;
@@ -27,24 +27,25 @@ use crate::qr_store::QrStore;
 use crate::stops::Stops;
 use crate::style::{LineStyle, Settings, Style};
 use escpos_command::{
-    Bars, Command, LineWidth, Position, PositionKind, Raster, SettingKind, TabStops, choice,
-    face_of, hri_position_of,
+    Bars, Command, Graphics, LineWidth, Position, PositionKind, Raster, SettingKind, TabStops,
+    choice, face_of, hri_position_of,
 };
 use std::alloc::Global;
 
-/// The most items that one command prints: a row, a feed and a barcode, a raster, a QR code or a cut.
+/// The most items that one command prints: a row, a feed and a barcode, a raster, graphics, a QR code or a cut.
 pub const MOST_ITEMS: usize = 3;
 
 const _: () = prove!(MOST_ITEMS == 3);
 
-/// What commands leave: how wide a line is, which no command changes, the items on paper, the settings, the data of QR codes that
-/// is stored, the tab stops, and the line that isn't printed yet.
+/// What commands leave: how wide a line is, which no command changes, the items on paper, the settings, the data of QR codes and the
+/// graphics that are stored, the tab stops, and the line that isn't printed yet.
 #[derive(Drop)]
 pub struct Paper {
     pub line_width: LineWidth,
     pub items: Vec<Item>,
     pub settings: Settings,
     pub store: QrStore,
+    pub graphics: Option<Graphics>,
     pub stops: Stops,
     pub line: PrintBuffer,
 }
@@ -56,6 +57,7 @@ impl Paper {
         ensures items { result.items.items ≡ [] }
         ensures settings { result.settings ≡ power_on_settings }
         ensures stored { result.store.stored ≡ None }
+        ensures graphics { result.graphics ≡ None }
         ensures stops { result.stops ≡ usual_stops }
         ensures line { result.line ≡ nothing_placed }
     {
@@ -64,6 +66,7 @@ impl Paper {
             items: Vec::new(alloc),
             settings: Settings::power_on(),
             store: QrStore::new(alloc),
+            graphics: None,
             stops: Stops::usual(),
             line: PrintBuffer::new(),
         }
@@ -75,17 +78,19 @@ impl Paper {
         ensures items { self.new.items ≡ self.old.items }
         ensures settings { self.new.settings ≡ power_on_settings }
         ensures stored { self.new.store.stored ≡ None }
+        ensures graphics { self.new.graphics ≡ None }
         ensures ready { self.new.store.ready ≡ true }
         ensures stops { self.new.stops ≡ usual_stops }
         ensures line { self.new.line ≡ nothing_placed }
     {
         self.settings = Settings::power_on();
         self.store.clear();
+        self.graphics = None;
         self.stops = Stops::usual();
         self.line = PrintBuffer::new();
     }
 
-    /// Carries out a command. The bytes of a barcode or a raster are moved onto the paper.
+    /// Carries out a command. The bytes of a barcode, a raster or graphics are moved onto the paper.
     pub fn carry_out(&mut self, command: Command)
         requires room { vec_len self.old.items + MOST_ITEMS ≤ vec_capacity self.old.items }
         requires ready { IsTrue self.old.store.ready }
@@ -93,11 +98,11 @@ impl Paper {
         requires narrow { (self.old.settings.text.width ≤ 8) × (self.old.settings.text.height ≤ 8) }
         ensures line_width { self.new.line_width ≡ self.old.line_width }
         ensures items { self.new.items.items
-            ≡ self.old.items.items ++ step_prints self.old.line_width self.old.settings self.old.store.stored self.old.line command }
+            ≡ self.old.items.items ++ step_prints self.old.line_width self.old.settings (storage_on self.old) self.old.line command }
         ensures settings { self.new.settings ≡ settings_after (is_empty self.old.line.cells) self.old.settings command }
-        ensures stored { self.new.store.stored ≡ set_after sets_stored None self.old.store.stored command }
+        ensures storage { storage_on self.new ≡ storage_after (storage_on self.old) command }
         ensures stops { self.new.stops ≡ unwrap_or (sets_stops self.old.settings.text command) self.old.stops }
-        ensures line { self.new.line ≡ line_after self.old.line_width self.old.settings self.old.stops self.old.store.stored self.old.line command }
+        ensures line { self.new.line ≡ line_after self.old.line_width self.old.settings self.old.stops (storage_on self.old) self.old.line command }
     {
         match command {
             Command::Char(character) => {
@@ -124,6 +129,8 @@ impl Paper {
             Command::Raster(raster) => self.print_raster(raster),
             Command::Cut(cut) => self.print_cut(cut.is_partial(), cut.feed()),
             Command::OldCut(_) => self.print_cut(true, None),
+            Command::GraphicsPrint(_) => self.print_graphics(),
+            Command::GraphicsStore(graphics) => self.store_graphics(graphics),
             Command::QrPrint => self.print_stored(),
             Command::QrStore(stored) => self.store.store(stored),
             Command::QrModel(model) => self.settings.codes.model = model.number(),
@@ -154,8 +161,9 @@ impl Paper {
         ensures items { self.new.items ≡ self.old.items }
         ensures settings { self.new.settings ≡ settings_after (is_empty self.old.line.cells) self.old.settings (kind.Position position) }
         ensures store { self.new.store ≡ self.old.store }
+        ensures graphics { self.new.graphics ≡ self.old.graphics }
         ensures stops { self.new.stops ≡ self.old.stops }
-        ensures line { self.new.line ≡ line_after self.old.line_width self.old.settings self.old.stops self.old.store.stored self.old.line (kind.Position position) }
+        ensures line { self.new.line ≡ line_after self.old.line_width self.old.settings self.old.stops (storage_on self.old) self.old.line (kind.Position position) }
     {
         let units = position.units();
         match position.kind() {
@@ -179,8 +187,9 @@ impl Paper {
         ensures items { self.new.items ≡ self.old.items }
         ensures settings { self.new.settings ≡ self.old.settings }
         ensures store { self.new.store ≡ self.old.store }
+        ensures graphics { self.new.graphics ≡ self.old.graphics }
         ensures stops { self.new.stops ≡ self.old.stops }
-        ensures line { self.new.line ≡ line_after self.old.line_width self.old.settings self.old.stops self.old.store.stored self.old.line (kind.Position (position.Relative, units)) }
+        ensures line { self.new.line ≡ line_after self.old.line_width self.old.settings self.old.stops (storage_on self.old) self.old.line (kind.Position (position.Relative, units)) }
     {
         let area = self.area();
         if units < 32768 {
@@ -196,6 +205,7 @@ impl Paper {
         ensures items { self.new.items ≡ self.old.items }
         ensures settings { self.new.settings ≡ settings_after (is_empty self.old.line.cells) self.old.settings (Set (kind, parameter)) }
         ensures store { self.new.store ≡ self.old.store }
+        ensures graphics { self.new.graphics ≡ self.old.graphics }
         ensures stops { self.new.stops ≡ self.old.stops }
         ensures line { self.new.line ≡ self.old.line }
     {
@@ -263,6 +273,7 @@ impl Paper {
         ensures line_width { self.new.line_width ≡ self.old.line_width }
         ensures settings { self.new.settings ≡ self.old.settings }
         ensures store { self.new.store ≡ self.old.store }
+        ensures graphics { self.new.graphics ≡ self.old.graphics }
         ensures stops { self.new.stops ≡ self.old.stops }
         ensures line { self.new.line ≡ nothing_placed }
     {
@@ -282,6 +293,7 @@ impl Paper {
         ensures line_width { self.new.line_width ≡ self.old.line_width }
         ensures settings { self.new.settings ≡ self.old.settings }
         ensures store { self.new.store ≡ self.old.store }
+        ensures graphics { self.new.graphics ≡ self.old.graphics }
         ensures stops { self.new.stops ≡ self.old.stops }
         ensures line { self.new.line ≡ nothing_placed }
     {
@@ -298,6 +310,7 @@ impl Paper {
         ensures line_width { self.new.line_width ≡ self.old.line_width }
         ensures settings { self.new.settings ≡ self.old.settings }
         ensures store { self.new.store ≡ self.old.store }
+        ensures graphics { self.new.graphics ≡ self.old.graphics }
         ensures stops { self.new.stops ≡ self.old.stops }
         ensures line { self.new.line ≡ nothing_placed }
     {
@@ -313,6 +326,7 @@ impl Paper {
         ensures line_width { self.new.line_width ≡ self.old.line_width }
         ensures settings { self.new.settings ≡ self.old.settings }
         ensures store { self.new.store ≡ self.old.store }
+        ensures graphics { self.new.graphics ≡ self.old.graphics }
         ensures stops { self.new.stops ≡ self.old.stops }
         ensures line { self.new.line ≡ nothing_placed }
     {
@@ -328,6 +342,7 @@ impl Paper {
         ensures line_width { self.new.line_width ≡ self.old.line_width }
         ensures settings { self.new.settings ≡ self.old.settings }
         ensures store { self.new.store ≡ self.old.store }
+        ensures graphics { self.new.graphics ≡ self.old.graphics }
         ensures stops { self.new.stops ≡ self.old.stops }
         ensures line { self.new.line ≡ nothing_placed }
     {
@@ -344,6 +359,7 @@ impl Paper {
         ensures line_width { self.new.line_width ≡ self.old.line_width }
         ensures settings { self.new.settings ≡ self.old.settings }
         ensures stored { self.new.store.stored ≡ self.old.store.stored }
+        ensures graphics { self.new.graphics ≡ self.old.graphics }
         ensures stops { self.new.stops ≡ self.old.stops }
         ensures line { self.new.line ≡ (if is_some self.old.store.stored then nothing_placed else self.old.line) }
     {
@@ -358,6 +374,39 @@ impl Paper {
         }
     }
 
+    // Stores graphics in place of those that were stored; does nothing if their dots aren't those of their size.
+    fn store_graphics(&mut self, graphics: Graphics)
+        ensures line_width { self.new.line_width ≡ self.old.line_width }
+        ensures items { self.new.items ≡ self.old.items }
+        ensures settings { self.new.settings ≡ self.old.settings }
+        ensures store { self.new.store ≡ self.old.store }
+        ensures graphics { self.new.graphics ≡ set_after sets_graphics None self.old.graphics (kind.GraphicsStore graphics) }
+        ensures stops { self.new.stops ≡ self.old.stops }
+        ensures line { self.new.line ≡ self.old.line }
+    {
+        if graphics.has_its_dots() {
+            self.graphics = Some(graphics);
+        }
+    }
+
+    // Ends the line, prints the graphics that are stored, and stores none; does nothing if none are.
+    #[inline(never)]
+    fn print_graphics(&mut self)
+        requires room { vec_len self.old.items + MOST_ITEMS ≤ vec_capacity self.old.items }
+        ensures items { self.new.items.items
+            ≡ self.old.items.items ++ prints_graphics self.old.settings.lines self.old.graphics self.old.line.cells }
+        ensures line_width { self.new.line_width ≡ self.old.line_width }
+        ensures settings { self.new.settings ≡ self.old.settings }
+        ensures store { self.new.store ≡ self.old.store }
+        ensures graphics { self.new.graphics ≡ None }
+        ensures stops { self.new.stops ≡ self.old.stops }
+        ensures line { self.new.line ≡ (if is_some self.old.graphics then nothing_placed else self.old.line) }
+    {
+        if let Some(graphics) = self.graphics.take() {
+            self.print(graphics_item(self.settings.lines.alignment, graphics));
+        }
+    }
+
     // Ends the line and prints an item below it.
     #[inline]
     fn print(&mut self, item: Item)
@@ -367,6 +416,7 @@ impl Paper {
         ensures line_width { self.new.line_width ≡ self.old.line_width }
         ensures settings { self.new.settings ≡ self.old.settings }
         ensures store { self.new.store ≡ self.old.store }
+        ensures graphics { self.new.graphics ≡ self.old.graphics }
         ensures stops { self.new.stops ≡ self.old.stops }
         ensures line { self.new.line ≡ nothing_placed }
     {

@@ -3,12 +3,13 @@
 //! Beside its cells it keeps how many dots they take, where they end and how far they reach, so that one addition decides whether one
 //! more cell fits. How wide the printing area is, is a parameter here. A cell alone may be wider than any line.
 
-ghost use Rattle.std.specs.Prelude.{◌≡◌, ◌≢◌, ◌+◌, ◌*◌, ◌≤◌, IsTrue, IsFalse, ℕ, List, None, [], ◌∷◌, ◌++◌, length, map};
+ghost use Rattle.std.specs.Prelude.{◌≡◌, ◌≢◌, ◌↔◌, ◌+◌, ◌*◌, ◌≤◌, IsTrue, IsFalse, ℕ, List, None, [], ◌∷◌, ◌++◌, length, map};
 ghost use Rattle.escpos_command.specs.declared.line_width.TheConstants.{MOST_LINE_DOTS};
 ghost use Rattle.escpos_paper.specs.Cells.{cell, moved_to, next_place, nothing_placed, place_after};
 ghost use Rattle.escpos_paper.specs.Cells as moves;
 ghost use Rattle.escpos_paper.specs.Rows.{fits};
 ghost use Rattle.escpos_paper.specs.Steps.{has_room, with_next};
+ghost use Rattle.escpos_paper.specs.PowerOn.{is_clear};
 ghost use Rattle.escpos_paper.specs.Styles.{is_empty};
 
 use crate::cell::{Cell, Cells};
@@ -59,6 +60,14 @@ impl PrintBuffer {
         ensures { result ≡ is_empty self.now.cells }
     {
         self.cells.as_slice().is_empty()
+    }
+
+    /// Whether the line has no cell, and the next one stands at its beginning.
+    pub fn is_clear(&self) -> bool
+        ensures value { result ≡ is_clear self.now }
+        ensures clear { IsTrue result ↔ (self.now ≡ nothing_placed) }
+    {
+        self.moved.is_none() && self.is_empty()
     }
 
     /// Whether the next cell follows the last.

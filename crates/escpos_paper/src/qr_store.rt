@@ -1,6 +1,6 @@
 //! The data of QR codes that a page keeps, and room for a copy of it: a QR code may be printed more than once.
 
-ghost use Rattle.std.specs.Prelude.{◌≡◌, ◌≤◌, IsTrue, IsOk, OnOk, OnErr, true, MatchOption, Some, None};
+ghost use Rattle.std.specs.Prelude.{◌≡◌, ◌≤◌, IsTrue, IsOk, OnOk, OnErr, true, MatchOption, Some, None, option_map};
 
 use crate::content::QrContent;
 use escpos_command::QrData;
@@ -53,6 +53,13 @@ impl QrStore {
         ensures { self.new.stored ≡ Some stored }
     {
         self.stored = Some(stored);
+    }
+
+    /// What is stored. Allocates nothing.
+    pub fn stored(&self) -> Option<&QrData>
+        ensures { option_map (λ data_now. data_now.now) result ≡ self.now.stored }
+    {
+        self.stored.as_ref()
     }
 
     /// Whether there is room for a copy of what is stored. Allocates nothing.

@@ -1,7 +1,8 @@
 //! Tab stops, in dots.
 
-ghost use Rattle.std.specs.Prelude.{◌≡◌, ◌≤◌, length};
+ghost use Rattle.std.specs.Prelude.{◌≡◌, ◌↔◌, ◌≤◌, IsTrue, length};
 ghost use Rattle.escpos_paper.specs.Cells.{next_stop};
+ghost use Rattle.escpos_paper.specs.PowerOn.{same_numbers};
 ghost use Rattle.escpos_paper.specs.Styles.{dots_of_columns, usual_stops};
 
 use crate::style::Style;
@@ -39,6 +40,15 @@ impl Stops {
         let mut dots = [0; MOST_STOPS];
         dots[..10].copy_from_slice(&[96, 192, 288, 384, 480, 576, 672, 768, 864, 960]);
         Stops { dots, count: 10 }
+    }
+
+    /// Whether they are those of a printer just switched on.
+    pub fn are_usual(&self) -> bool
+        ensures value { result ≡ same_numbers self.now usual_stops }
+        ensures usual { IsTrue result ↔ (self.now ≡ usual_stops) }
+    {
+        let usual = Stops::usual();
+        &self.dots[..self.count] == &usual.dots[..usual.count]
     }
 
     /// Those at the columns of characters in a style.

@@ -9,6 +9,7 @@ ghost use Rattle.escpos_command.specs.declared.parameter.position.PositionKind.T
 ghost use Rattle.escpos_command.specs.declared.line_width.TheConstants.{MOST_LINE_DOTS};
 ghost use Rattle.escpos_paper.specs.Cells.{cell};
 ghost use Rattle.escpos_paper.specs.Dots.{area_dots, style_dots};
+ghost use Rattle.escpos_paper.specs.PowerOn.{are_usual, are_usual_bars, are_usual_codes, are_usual_lines, is_usual_place};
 ghost use Rattle.escpos_paper.specs.Steps.{line_style_after};
 
 use crate::cell::{Cell, face_dots, face_rows};
@@ -57,6 +58,17 @@ impl Settings {
                 correction: Correction::L,
             },
         }
+    }
+
+    /// Whether they are those of a printer just switched on.
+    pub fn are_usual(&self) -> bool
+        ensures value { result ≡ are_usual self.now }
+        ensures usual { IsTrue result ↔ (self.now ≡ power_on_settings) }
+    {
+        self.text.is_same(&Style::power_on())
+            && self.bars.is_usual()
+            && self.lines.is_usual()
+            && self.codes.is_usual()
     }
 }
 
@@ -272,6 +284,14 @@ pub struct Placing {
 }
 
 impl Placing {
+    // Whether it is that of a printer just switched on.
+    fn is_usual(self) -> bool
+        ensures value { result ≡ is_usual_place self }
+        ensures usual { IsTrue result ↔ (self ≡ power_on_settings.lines.alignment) }
+    {
+        self.side == Alignment::Left && self.margin == 0 && self.width.is_none()
+    }
+
     /// How many dots a line of this width has right of the margin for the printing area.
     #[inline]
     pub fn area_dots(self, line: LineWidth) -> usize
@@ -298,6 +318,14 @@ pub struct LineStyle {
 }
 
 impl LineStyle {
+    // Whether it is that of a printer just switched on.
+    fn is_usual(self) -> bool
+        ensures value { result ≡ are_usual_lines self }
+        ensures usual { IsTrue result ↔ (self ≡ power_on_settings.lines) }
+    {
+        self.alignment.is_usual() && !self.upside_down && self.spacing.is_none()
+    }
+
     // After ESC a, which is ignored if the line has text.
     pub(crate) fn aligned(self, is_line_empty: bool, align: u8) -> Self
         ensures { result ≡ line_style_after is_line_empty self (command.Set (sets.Align, Some align)) }
@@ -374,6 +402,16 @@ pub struct QrStyle {
     pub correction: Correction,
 }
 
+impl QrStyle {
+    // Whether it is that of a printer just switched on.
+    fn is_usual(self) -> bool
+        ensures value { result ≡ are_usual_codes self }
+        ensures usual { IsTrue result ↔ (self ≡ power_on_settings.codes) }
+    {
+        self.model == 2 && self.size == 3 && self.correction == Correction::L
+    }
+}
+
 /// How a barcode is printed.
 #[derive(Clone, Copy, Debug, PartialEq, Eq)]
 pub struct BarStyle {
@@ -385,4 +423,17 @@ pub struct BarStyle {
     pub place: HriPosition,
     /// The font of that interpretation.
     pub hri_font: FontFace,
+}
+
+impl BarStyle {
+    // Whether it is that of a printer just switched on.
+    fn is_usual(self) -> bool
+        ensures value { result ≡ are_usual_bars self }
+        ensures usual { IsTrue result ↔ (self ≡ power_on_settings.bars) }
+    {
+        self.height == 162
+            && self.module_width == 3
+            && self.place == HriPosition::Nowhere
+            && self.hri_font == FontFace::A
+    }
 }

@@ -6,6 +6,8 @@ use Rattle.std.proofs.lemmas.List.{append_cancel_left, length-take-le, take-appe
 use Rattle.std.proofs.Math.Seq.{take-append-add, take-append_seam}
 use Rattle.escpos_passed.specs.declared.table.Row.{Row}
 use Rattle.escpos_passed.specs.Lengths.{whole_length}
+use Rattle.escpos_passed.specs.declared.table.Except.{Except}
+use Rattle.escpos_passed.specs.declared.table.Except.TheVariants as except
 use Rattle.escpos_passed.specs.Table.{table, row_at, row_prefix, allows, may_allow, IsPassed, IsPassedBy, IsPart, IsPartBy, IsPrefixStart, IsUnfinished, IsShort}
 use Rattle.escpos_passed.specs.Finding.{IsNone}
 use Rattle.escpos_passed.proofs.Lengths.{stable, enough}
@@ -18,12 +20,24 @@ clear_of : (b : Bool) → b ≡ false → IsTrue b → ⊥
 clear_of true e h = absurd cc
 clear_of false e h = absurd cc
 
-allows_more : (except : Option ℕ) (bs more : List ℕ) → IsTrue (allows except bs) → IsTrue (may_allow except (bs ++ more))
+allows_more : (e : Option Except) (bs more : List ℕ) → IsTrue (allows e bs) → IsTrue (may_allow e (bs ++ more))
 allows_more None bs more h = refl
-allows_more (Some n) [] more h = absurd cc
-allows_more (Some n) (low ∷ []) more h = absurd cc
-allows_more (Some n) (low ∷ high ∷ []) more h = absurd cc
-allows_more (Some n) (low ∷ high ∷ b ∷ bs) more h = h
+allows_more (Some (except.First code)) [] more h = absurd cc
+allows_more (Some (except.First code)) (low ∷ []) more h = absurd cc
+allows_more (Some (except.First code)) (low ∷ high ∷ []) more h = absurd cc
+allows_more (Some (except.First code)) (low ∷ high ∷ b ∷ bs) more h = h
+allows_more (Some except.Graphics) [] more h = absurd cc
+allows_more (Some except.Graphics) (low ∷ []) more h = absurd cc
+allows_more (Some except.Graphics) (low ∷ high ∷ []) more h = absurd cc
+allows_more (Some except.Graphics) (low ∷ high ∷ m ∷ []) more h = absurd cc
+allows_more (Some except.Graphics) (low ∷ high ∷ m ∷ fn ∷ bs) more h = h
+allows_more (Some except.LongGraphics) [] more h = absurd cc
+allows_more (Some except.LongGraphics) (first ∷ []) more h = absurd cc
+allows_more (Some except.LongGraphics) (first ∷ second ∷ []) more h = absurd cc
+allows_more (Some except.LongGraphics) (first ∷ second ∷ third ∷ []) more h = absurd cc
+allows_more (Some except.LongGraphics) (first ∷ second ∷ third ∷ fourth ∷ []) more h = absurd cc
+allows_more (Some except.LongGraphics) (first ∷ second ∷ third ∷ fourth ∷ m ∷ []) more h = absurd cc
+allows_more (Some except.LongGraphics) (first ∷ second ∷ third ∷ fourth ∷ m ∷ fn ∷ bs) more h = h
 
 -- ## The bytes differ from the prefix, or end within it
 

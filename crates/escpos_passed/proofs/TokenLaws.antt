@@ -12,6 +12,8 @@ use Rattle.escpos_command.specs.Tree.{Tree, dead, leaf, node, walk, grammar}
 use Rattle.escpos_command.proofs.TableTree.{at_start, leads}
 use Rattle.escpos_command.proofs.Walks.{walk-append}
 use Rattle.escpos_command.proofs.Readings.{node_at_half, viable_prefix, not_viable_at_dead, one_command, no_prefix, one_fault}
+use Rattle.escpos_passed.specs.declared.table.Except.{Except}
+use Rattle.escpos_passed.specs.declared.table.Except.TheVariants as except
 use Rattle.escpos_passed.specs.Table.{table, row_at, row_prefix, may_allow, IsPassed, IsPassedBy, IsPart, IsPartBy, IsShort}
 use Rattle.escpos_passed.specs.Lengths.{whole_length}
 use Rattle.escpos_passed.specs.Tokens.{Token, taken, passed, IsToken, bytes_of, spell_tokens, IsRest, nothing, half, part, ReadsTokens, FaultAfter}
@@ -56,9 +58,11 @@ walk_none dead = refl
 walk_none (leaf c) = refl
 walk_none (node next) = refl
 
-may_begin : (except : Option ℕ) → IsTrue (may_allow except [])
+may_begin : (e : Option Except) → IsTrue (may_allow e [])
 may_begin None = refl
-may_begin (Some n) = refl
+may_begin (Some (except.First code)) = refl
+may_begin (Some except.Graphics) = refl
+may_begin (Some except.LongGraphics) = refl
 
 strays_not_empty : (bs : List ℕ) → strays grammar bs ≡ true → bs ≡ [] → ⊥
 strays_not_empty bs s e =

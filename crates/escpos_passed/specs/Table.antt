@@ -1,5 +1,7 @@
 -- The commands that are passed over.
-use Rattle.std.specs.Prelude.{ℕ, ◌≡◌, ◌≢◌, ◌<◌, ◌⊎◌, ◌==◌, not, Bool, true, false, List, [], ◌∷◌, ◌++◌, length, get_or, Option, None, Some, IsTrue}
+use Rattle.std.specs.Prelude.{ℕ, ◌≡◌, ◌≢◌, ◌<◌, ◌⊎◌, ◌==◌, ◌&&◌, ◌||◌, not, Bool, true, false, List, [], ◌∷◌, ◌++◌, length, get_or, Option, None, Some, IsTrue}
+use Rattle.escpos_passed.specs.declared.table.Except.{Except}
+use Rattle.escpos_passed.specs.declared.table.Except.TheVariants as except
 use Rattle.escpos_passed.specs.declared.table.Row.{Row}
 use Rattle.escpos_passed.specs.declared.table.Form.TheVariants.{Fixed}
 use Rattle.escpos_passed.specs.declared.table.Prefix.{Prefix}
@@ -26,17 +28,28 @@ prefix_bytes (prefix.With a b n) = a ∷ b ∷ n ∷ []
 abbrev pub row_prefix : Row → List ℕ
 row_prefix r = prefix_bytes r.prefix
 
--- The bytes after the prefix have a third one, and it isn't the excepted one, if there is one.
-abbrev pub allows : Option ℕ → List ℕ → Bool
-allows None bs = true
-allows (Some except) (low ∷ high ∷ b ∷ bs) = not (b == except)
-allows (Some except) _ = false
+-- Two bytes that are a function of GS ( L, or of GS 8 L, that is taken.
+abbrev pub is_graphics : ℕ → ℕ → Bool
+is_graphics m fn = m == 0x30 && (fn == 0x02 || fn == 0x32 || fn == 0x70)
 
--- The same, where the third byte may still come.
-abbrev pub may_allow : Option ℕ → List ℕ → Bool
+abbrev pub is_long_graphics : ℕ → ℕ → Bool
+is_long_graphics m fn = m == 0x30 && fn == 0x70
+
+-- The bytes after the prefix have a function, and it isn't an excepted one, if there is one.
+abbrev pub allows : Option Except → List ℕ → Bool
+allows None bs = true
+allows (Some (except.First code)) (low ∷ high ∷ b ∷ bs) = not (b == code)
+allows (Some except.Graphics) (low ∷ high ∷ m ∷ fn ∷ bs) = not (is_graphics m fn)
+allows (Some except.LongGraphics) (first ∷ second ∷ third ∷ fourth ∷ m ∷ fn ∷ bs) = not (is_long_graphics m fn)
+allows (Some e) _ = false
+
+-- The same, where the function may still come.
+abbrev pub may_allow : Option Except → List ℕ → Bool
 may_allow None bs = true
-may_allow (Some except) (low ∷ high ∷ b ∷ bs) = not (b == except)
-may_allow (Some except) _ = true
+may_allow (Some (except.First code)) (low ∷ high ∷ b ∷ bs) = not (b == code)
+may_allow (Some except.Graphics) (low ∷ high ∷ m ∷ fn ∷ bs) = not (is_graphics m fn)
+may_allow (Some except.LongGraphics) (first ∷ second ∷ third ∷ fourth ∷ m ∷ fn ∷ bs) = not (is_long_graphics m fn)
+may_allow (Some e) _ = true
 
 -- The bytes are a whole command of this row.
 pub record IsPassedBy (r : Row) (bs : List ℕ) : Type 0 where

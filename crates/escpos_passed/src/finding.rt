@@ -1,11 +1,11 @@
 //! Whether a command that is passed over begins some bytes.
 
 ghost use Rattle.std.specs.Prelude.{◌≡◌, ◌≢◌, ◌≤◌, ◌<◌, [], ◌∷◌, ◌++◌, length, take};
-ghost use Rattle.escpos_passed.specs.Table.{prefix_bytes, allows, may_allow};
+ghost use Rattle.escpos_passed.specs.Table.{prefix_bytes, allows, is_graphics, is_long_graphics, may_allow};
 ghost use Rattle.escpos_passed.specs.Finding.{IsFound, IsFoundIn, IsTried, IsAfter};
 
 use crate::length::whole_length;
-use crate::table::{Prefix, Row, TABLE};
+use crate::table::{Except, Prefix, Row, TABLE};
 
 /// What begins some bytes.
 #[derive(Clone, Copy, Debug, PartialEq, Eq)]
@@ -125,23 +125,45 @@ fn after_byte(wanted: u8, bytes: &[u8]) -> After<'_>
     }
 }
 
-// The bytes after a prefix have a third one, and it isn't the excepted one, if there is one.
-fn allows(except: Option<u8>, bytes: &[u8]) -> bool
+// The bytes after a prefix have a function, and it isn't an excepted one, if there is one.
+fn allows(except: Option<Except>, bytes: &[u8]) -> bool
     ensures { result ≡ allows except bytes.now }
 {
     match (except, bytes) {
         (None, _) => true,
-        (Some(except), [_, _, byte, ..]) => *byte != except,
+        (Some(Except::First(code)), [_, _, byte, ..]) => *byte != code,
+        (Some(Except::Graphics), [_, _, m, function, ..]) => !is_graphics(*m, *function),
+        (Some(Except::LongGraphics), [_, _, _, _, m, function, ..]) => {
+            !is_long_graphics(*m, *function)
+        }
         _ => false,
     }
 }
 
-// The same, where the third byte may still come.
-fn may_allow(except: Option<u8>, bytes: &[u8]) -> bool
+// The same, where the function may still come.
+fn may_allow(except: Option<Except>, bytes: &[u8]) -> bool
     ensures { result ≡ may_allow except bytes.now }
 {
     match (except, bytes) {
-        (Some(except), [_, _, byte, ..]) => *byte != except,
+        (Some(Except::First(code)), [_, _, byte, ..]) => *byte != code,
+        (Some(Except::Graphics), [_, _, m, function, ..]) => !is_graphics(*m, *function),
+        (Some(Except::LongGraphics), [_, _, _, _, m, function, ..]) => {
+            !is_long_graphics(*m, *function)
+        }
         _ => true,
     }
+}
+
+// Whether these two bytes are a function of GS ( L that is taken.
+fn is_graphics(m: u8, function: u8) -> bool
+    ensures { result ≡ is_graphics m function }
+{
+    m == 0x30 && matches!(function, 0x02 | 0x32 | 0x70)
+}
+
+// Whether these two bytes are a function of GS 8 L that is taken.
+fn is_long_graphics(m: u8, function: u8) -> bool
+    ensures { result ≡ is_long_graphics m function }
+{
+    m == 0x30 && function == 0x70
 }

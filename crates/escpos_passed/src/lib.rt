@@ -15,4 +15,4 @@ mod table;
 pub use finding::{Found, find};
 pub use name::Name;
 pub use reading::{End, Stop, TokenConsumer, read_tokens};
-pub use table::{Counted, Form, Number, Prefix, Row, TABLE};
+pub use table::{Counted, Except, Form, Number, Prefix, Row, TABLE};

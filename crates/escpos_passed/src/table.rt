@@ -55,14 +55,25 @@ pub enum Prefix {
     With(u8, u8, u8),
 }
 
+/// Functions that are taken: they stand after the length, whose first byte follows the prefix.
+#[derive(Clone, Copy, Debug, PartialEq, Eq)]
+pub enum Except {
+    /// The functions whose first byte is this one, after a length of two bytes.
+    First(u8),
+    /// Functions 112 and 50 of graphics (30 and 70, 32 or 02), after a length of two bytes.
+    Graphics,
+    /// Function 112 of graphics (30 and 70), after a length of four bytes.
+    LongGraphics,
+}
+
 /// A row of the table.
 #[derive(Clone, Copy, Debug, PartialEq, Eq)]
 pub struct Row {
     pub prefix: Prefix,
     /// How the length of what follows the prefix is told.
     pub form: Form,
-    /// A third byte after the prefix with which this isn't the command.
-    pub except: Option<u8>,
+    /// The functions of these letters that are taken, and so not passed over.
+    pub except: Option<Except>,
 }
 
 // pL and pH, and pL + 256 pH bytes.
@@ -84,7 +95,7 @@ const COUNT_BYTE: Counted = Counted {
 /// How many rows there are.
 pub const COUNT: usize = 107;
 
-// A row for each line: its prefix, how the length of what follows is told, and the third byte with which it isn't the command.
+// A row for each line: its prefix, how the length of what follows is told, and the functions that are taken.
 macro_rules! rows {
     ($($prefix:expr, $form:expr, $except:expr;)*) => {
         [$(Row { prefix: $prefix, form: $form, except: $except }),*]
@@ -226,11 +237,11 @@ pub const TABLE: [Row; COUNT] = rows! {
     // GS ( G
     Prefix::Three(GS, b'(', b'G'), Form::Counted(LOW_AND_HIGH), None;
     // GS ( H
-    Prefix::Three(GS, b'(', b'H'), Form::Counted(LOW_AND_HIGH), Some(0x30);
+    Prefix::Three(GS, b'(', b'H'), Form::Counted(LOW_AND_HIGH), Some(Except::First(0x30));
     // GS ( K
     Prefix::Three(GS, b'(', b'K'), Form::Counted(LOW_AND_HIGH), None;
     // GS ( L
-    Prefix::Three(GS, b'(', b'L'), Form::Counted(LOW_AND_HIGH), None;
+    Prefix::Three(GS, b'(', b'L'), Form::Counted(LOW_AND_HIGH), Some(Except::Graphics);
     // GS ( M
     Prefix::Three(GS, b'(', b'M'), Form::Counted(LOW_AND_HIGH), None;
     // GS ( N
@@ -240,13 +251,13 @@ pub const TABLE: [Row; COUNT] = rows! {
     // GS ( Q
     Prefix::Three(GS, b'(', b'Q'), Form::Counted(LOW_AND_HIGH), None;
     // GS ( k
-    Prefix::Three(GS, b'(', b'k'), Form::Counted(LOW_AND_HIGH), Some(0x31);
+    Prefix::Three(GS, b'(', b'k'), Form::Counted(LOW_AND_HIGH), Some(Except::First(0x31));
     // GS *
     Prefix::Two(GS, b'*'), Form::Counted(Counted { before: 2, number: Number::Byte(0), again: Some(Number::Byte(1)), unit: 8 }), None;
     // GS /
     Prefix::Two(GS, b'/'), Form::Fixed(1), None;
     // GS 8 L
-    Prefix::Three(GS, b'8', b'L'), Form::Long { before: 4, at: 0, less: 0 }, None;
+    Prefix::Three(GS, b'8', b'L'), Form::Long { before: 4, at: 0, less: 0 }, Some(Except::LongGraphics);
     // GS :
     Prefix::Two(GS, b':'), Form::Fixed(0), None;
     // GS <

@@ -89,7 +89,7 @@ const GS_EXAMPLES: [(&str, &[u8]); 47] = [
     ("GS ( K", b"\x1D\x28\x4B\x02\x00\x31\x00"),
     (
         "GS ( L",
-        b"\x1D\x28\x4C\x0B\x00\x30\x70\x30\x01\x01\x31\x08\x00\x01\x00\xFF",
+        b"\x1D\x28\x4C\x0B\x00\x30\x71\x30\x01\x01\x31\x08\x00\x01\x00\xFF",
     ),
     ("GS ( L", b"\x1D\x28\x4C\x06\x00\x30\x45\x41\x42\x01\x01"),
     ("GS ( M", b"\x1D\x28\x4D\x02\x00\x02\x00"),
@@ -107,7 +107,7 @@ const GS_EXAMPLES: [(&str, &[u8]); 47] = [
     ("GS /", b"\x1D\x2F\x00"),
     (
         "GS 8 L",
-        b"\x1D\x38\x4C\x0B\x00\x00\x00\x30\x70\x30\x01\x01\x31\x08\x00\x01\x00\xFF",
+        b"\x1D\x38\x4C\x0B\x00\x00\x00\x30\x71\x30\x01\x01\x31\x08\x00\x01\x00\xFF",
     ),
     (
         "GS 8 L",
@@ -194,6 +194,25 @@ fn each_of_gs_is_found(rt: HostRuntime) {
     for (name, bytes) in GS_EXAMPLES {
         is_found(&rt, name, bytes);
     }
+}
+
+// Functions that are taken are not passed over, whatever follows them, and neither is a function that isn't there.
+#[test]
+fn taken_functions_are_none(rt: HostRuntime) {
+    let taken: [&[u8]; 7] = [
+        b"\x1D(L\x0B\x000p",
+        b"\x1D(L\x0B\x000p4\x01\x011\x08\x00\x01\x00\xFF",
+        b"\x1D(L\x02\x0002",
+        b"\x1D(L\x05\x000\x02",
+        b"\x1D(L\x00\x00",
+        b"\x1D(L\x01\x000",
+        b"\x1D8L\x0B\x00\x00\x000p",
+    ];
+    for bytes in taken {
+        assert!(&rt; find(bytes) == Found::Nothing);
+    }
+    is_found(&rt, "GS 8 L", b"\x1D8L\x02\x00\x00\x0002");
+    is_found(&rt, "GS ( L", b"\x1D(L\x03\x001p0");
 }
 
 #[test]

@@ -5,8 +5,8 @@ use escpos_command::FaultReason;
 use escpos_passed::{End, Stop, read_tokens};
 use std::alloc::{AllocError, Global};
 
-// Initialised, a line, a buzzer, a stored picture that is printed, another line and a cut.
-const RECEIPT: &[u8] = b"\x1B@Hi\n\x1BB\x02\x04\x1D(L\x02\x0002A\n\x1DV\x00";
+// Initialised, a line, a buzzer, a question about stored pictures, another line and a cut.
+const RECEIPT: &[u8] = b"\x1B@Hi\n\x1BB\x02\x04\x1D(L\x02\x0003A\n\x1DV\x00";
 
 // What a stream says, read with or without passing over: the tokens, a letter each, and how it ends.
 fn reads(

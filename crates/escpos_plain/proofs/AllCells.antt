@@ -3,7 +3,8 @@ use Rattle.std.proofs.Common.{◌≡◌, ◌≢◌, ℕ, List, [], ◌∷◌, �
 use Rattle.std.proofs.lemmas.Grind.{flat_map-append}
 use Rattle.std.proofs.Math.Seq.{append_snoc}
 use Rattle.escpos_command.specs.declared.command.Command.{Command}
-use Rattle.escpos_command.specs.declared.command.Command.TheVariants.{Char, Position, LineFeed, Init, FeedLines, FeedUnits, Bars, Raster, QrPrint, Cut, OldCut}
+use Rattle.escpos_command.specs.declared.command.Command.TheVariants.{Char, Position, LineFeed, Init, FeedLines, FeedUnits, Bars, Raster, GraphicsPrint, QrPrint, Cut, OldCut}
+use Rattle.escpos_command.specs.Graphics.{StoredPicture}
 use Rattle.escpos_command.specs.Text.{characters, is_some}
 use Rattle.escpos_paper.specs.declared.cell.Cell.{Cell}
 use Rattle.escpos_paper.specs.declared.item.Item.{Item}
@@ -13,7 +14,7 @@ use Rattle.escpos_command.specs.declared.parameter.position.PositionKind.TheVari
 use Rattle.std.proofs.lemmas.List.{map-append}
 use Rattle.escpos_paper.specs.Cells.{Placed, cell, nothing_placed, placed_cell}
 use Rattle.escpos_paper.specs.Rows.{line}
-use Rattle.escpos_paper.specs.Printed.{row_of, row_and_feed, prints_stored, printed}
+use Rattle.escpos_paper.specs.Printed.{row_of, row_and_feed, prints_graphics, prints_stored, printed}
 use Rattle.escpos_paper.specs.Page.{Sheet}
 use Rattle.escpos_paper.specs.Steps.{area_of, has_room, line_after, step_prints, with_next}
 use Rattle.escpos_paper.specs.Styles.{style}
@@ -50,8 +51,13 @@ at_stored : (lines : LineStyle) (qr : QrStyle) (stored : Option (List ℕ)) (p :
 at_stored lines qr None p = sym (append-nil (map unplaced p.cells))
 at_stored lines qr (Some bytes) p = before_others (row_and_feed lines p.cells) _ p.cells (cells_of_row_and_feed lines p.cells) refl
 
+at_graphics : (lines : LineStyle) (stored : Option StoredPicture) (p : Placed)
+    → row_cells (prints_graphics lines stored p.cells) ++ map unplaced (cond (is_some stored) nothing_placed p).cells ≡ map unplaced p.cells ++ []
+at_graphics lines None p = sym (append-nil (map unplaced p.cells))
+at_graphics lines (Some picture) p = before_others (row_and_feed lines p.cells) _ p.cells (cells_of_row_and_feed lines p.cells) refl
+
 one_command : (s : Sheet) (c : Command) → c ≢ Init
-    → row_cells (step_prints s.line_dots s.settings s.stored s.line c) ++ map unplaced (line_after s.line_dots s.settings s.stops s.stored s.line c).cells
+    → row_cells (step_prints s.line_dots s.settings s.storage s.line c) ++ map unplaced (line_after s.line_dots s.settings s.stops s.storage s.line c).cells
     ≡ map unplaced s.line.cells ++ map (cell s.settings.text) (characters c)
 one_command s (Char b) h = at_character s.settings.lines s.line (cell s.settings.text b) (has_room (area_of s.line_dots s.settings) s.line (cell s.settings.text b))
 one_command s LineFeed h = before_others (row_of s.settings.lines s.line.cells) _ s.line.cells (cells_of_row s.settings.lines s.line.cells) refl
@@ -61,7 +67,8 @@ one_command s (Bars bars) h = before_others (row_and_feed s.settings.lines s.lin
 one_command s (Raster raster) h = before_others (row_and_feed s.settings.lines s.line.cells) _ s.line.cells (cells_of_row_and_feed s.settings.lines s.line.cells) refl
 one_command s (Cut how) h = before_others (row_and_feed s.settings.lines s.line.cells) _ s.line.cells (cells_of_row_and_feed s.settings.lines s.line.cells) refl
 one_command s (OldCut b) h = before_others (row_and_feed s.settings.lines s.line.cells) _ s.line.cells (cells_of_row_and_feed s.settings.lines s.line.cells) refl
-one_command s QrPrint h = at_stored s.settings.lines s.settings.codes s.stored s.line
+one_command s QrPrint h = at_stored s.settings.lines s.settings.codes s.storage.codes s.line
+one_command s (GraphicsPrint fn) h = at_graphics s.settings.lines s.storage.graphics s.line
 one_command s Init h = absurd (h refl)
 one_command s (Position (position.Absolute, n)) h = sym (append-nil (map unplaced s.line.cells))
 one_command s (Position (position.Relative, n)) h = sym (append-nil (map unplaced s.line.cells))
@@ -84,8 +91,8 @@ one_more : (w : ℕ) (cs : List Command) (c : Command) → c ≢ Init → row_ce
     → row_cells (printed w (cs ++ c ∷ [])) ++ bare_line w (cs ++ c ∷ []) ≡ typed [] (cs ++ c ∷ [])
 one_more w cs c h is =
     let s = sheet_of w [] cs in
-    let new = step_prints s.line_dots s.settings s.stored s.line c in
-    let left = map unplaced (line_after s.line_dots s.settings s.stops s.stored s.line c).cells in
+    let new = step_prints s.line_dots s.settings s.storage s.line c in
+    let left = map unplaced (line_after s.line_dots s.settings s.stops s.storage s.line c).cells in
     ap (λ items. row_cells items ++ bare_line w (cs ++ c ∷ [])) (printed-snoc w cs c)
     ∙ ap (λ (p : Placed). row_cells (printed w cs ++ new) ++ map unplaced p.cells) (placed-snoc w cs c)
     ∙ ap (λ l. l ++ left) (flat_map-append cells_on (printed w cs) new)

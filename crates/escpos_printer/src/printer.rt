@@ -290,7 +290,7 @@ impl Printer {
         self.page.items()
     }
 
-    /// The number of bytes of the half command, at most 524,167. Allocates nothing.
+    /// The number of bytes of the half command, at most 524,176. Allocates nothing.
     pub fn pending_len(&self) -> usize
         ensures value { result ≡ length self.now.half }
         ensures rest { IsRest self.now.half }

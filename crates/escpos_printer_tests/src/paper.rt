@@ -4,6 +4,7 @@
 use crate::support::pages::{Step, plays_usual};
 use escpos_paper::*;
 
+mod graphics;
 mod qr_codes;
 mod widths;
 

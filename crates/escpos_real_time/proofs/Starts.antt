@@ -11,6 +11,9 @@ use Rattle.escpos_command.specs.declared.parameter.position.PositionKind.{Positi
 use Rattle.escpos_command.specs.declared.parameter.position.PositionKind.TheVariants as position
 use Rattle.escpos_command.specs.Positions.{position_prefix, word_bytes}
 use Rattle.escpos_command.proofs.PositionTree.{spelled_position}
+use Rattle.escpos_command.specs.declared.graphics.GraphicsForm.{GraphicsForm}
+use Rattle.escpos_command.specs.declared.graphics.GraphicsForm.TheVariants.{Short, Long}
+use Rattle.escpos_command.specs.Graphics.{stored_picture}
 use Rattle.escpos_command.specs.CommandTable.{IsCommand, row, spell}
 use Rattle.escpos_command.specs.SettingTable.{table, number, blank, row_for}
 use Rattle.escpos_command.proofs.SettingFacts.{is_table, firsts}
@@ -67,6 +70,11 @@ position_starts position.Relative more = starts ESC _ esc
 position_starts position.LeftMargin more = starts GS _ gs
 position_starts position.AreaWidth more = starts GS _ gs
 
+graphics_start : (form : GraphicsForm) (across down width height : ℕ) (dots : List ℕ)
+    → Starts (row (kind.GraphicsStore (stored_picture (record { form = form; across = across; down = down; width = width; height = height }) dots)))
+graphics_start Short across down width height dots = starts GS _ gs
+graphics_start Long across down width height dots = starts GS _ gs
+
 pub command_starts : (c : Command) → IsCommand c → Starts (row c)
 command_starts (kind.Char b) h = starts b _ (character_start b h)
 command_starts kind.Tab h = starts HT _ (omega arith, λ e. omega (arith, e))
@@ -81,6 +89,8 @@ command_starts (kind.TabStops columns) h = starts ESC _ esc
 command_starts (kind.Pulse pulse) h = starts ESC _ esc
 command_starts (kind.Bars bars) h = starts GS _ gs
 command_starts (kind.Raster raster) h = starts GS _ gs
+command_starts (kind.GraphicsStore p) h = graphics_start p.head.form p.head.across p.head.down p.head.width p.head.height p.dots
+command_starts (kind.GraphicsPrint fn) h = starts GS _ gs
 command_starts (kind.QrModel n) h = starts GS _ gs
 command_starts (kind.QrSize n) h = starts GS _ gs
 command_starts (kind.QrLevel n) h = starts GS _ gs

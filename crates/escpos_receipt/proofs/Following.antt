@@ -3,7 +3,7 @@ use Rattle.std.proofs.Common.{◌≡◌, ◌+◌, ◌<◌, ℕ, List, [], ◌∷
 use Rattle.std.specs.Prelude.{◌||◌, ◌&&◌, ◌==◌, not, length}
 use Rattle.std.proofs.lemmas.List.{length-take-le}
 use Rattle.escpos_command.specs.declared.command.Command.{Command}
-use Rattle.escpos_command.specs.declared.command.Command.TheVariants.{Char, LineFeed, QrPrint, Set}
+use Rattle.escpos_command.specs.declared.command.Command.TheVariants.{Char, GraphicsPrint, LineFeed, QrPrint, Set}
 use Rattle.escpos_command.specs.declared.setting.SettingKind.TheVariants as sets
 use Rattle.escpos_command.specs.Text.{text, ends_line, ends_text, characters}
 use Rattle.escpos_command.proofs.Lines.{text-snoc}
@@ -23,10 +23,12 @@ flag_of false [] (y ∷ more) = refl
 flag_of false (x ∷ t) [] = refl
 flag_of false (x ∷ t) (y ∷ more) = refl
 
--- A command that may follow ends the line if it is one that does so: a QR code comes with an empty line.
+-- A command that may follow ends the line if it is one that does so: a QR code and graphics come with an empty line.
 ends_as : (cs : List Command) (c : Command) → MayFollow cs c
     → is_nonempty (cond (ends_line cs c) [] (text cs) ++ characters c) ≡ is_nonempty (cond (ends_text c) [] (text cs) ++ characters c)
 ends_as cs QrPrint f = flag_of (ends_line cs QrPrint) (text cs) [] ∙ ap (λ t. t && not (ends_line cs QrPrint)) (f.at_line_start refl)
+ends_as cs (GraphicsPrint fn) f =
+    flag_of (ends_line cs (GraphicsPrint fn)) (text cs) [] ∙ ap (λ t. t && not (ends_line cs (GraphicsPrint fn))) (f.at_line_start refl)
 ends_as cs c f = refl
 
 pub has_text-snoc : (cs : List Command) (c : Command) → MayFollow cs c → has_text (cs ++ c ∷ []) ≡ (is_nonempty (characters c) || has_text cs && not (ends_text c))

@@ -1,16 +1,17 @@
 -- What is in force after one more entry.
 use Rattle.std.proofs.Common.{◌≡◌, ℕ, List, [], ◌∷◌, ◌++◌, Option, None, Some, refl, sym, ◌∙◌, ap, append_assoc, append-nil, Bool, true, false, cond}
-use Rattle.std.specs.Prelude.{◌||◌, ◌&&◌, not, filter_map}
+use Rattle.std.specs.Prelude.{◌||◌, ◌&&◌, if◌then◌else◌, not, filter_map}
 use Rattle.std.specs.List.{cons_option}
 use Rattle.std.proofs.lemmas.List.Elements.{filter_map-append}
 use Rattle.std.specs.Option.{unwrap_or}
 use Rattle.serde_json.specs.Data.{Data}
 use Rattle.escpos_command.specs.declared.command.Command.{Command}
-use Rattle.escpos_command.specs.Settings.{last_or, sets_stored, stored}
+use Rattle.escpos_command.specs.Graphics.{StoredPicture, has_its_dots}
+use Rattle.escpos_command.specs.Settings.{last_or, sets_graphics, sets_stored, stored, stored_graphics}
 use Rattle.escpos_command.specs.Text.{characters, ends_line, is_some, text}
-use Rattle.escpos_command.specs.declared.command.Command.TheVariants.{Init, QrPrint, QrStore}
+use Rattle.escpos_command.specs.declared.command.Command.TheVariants.{GraphicsPrint, GraphicsStore, Init, QrPrint, QrStore}
 use Rattle.escpos_command.proofs.Lines.{text-snoc}
-use Rattle.escpos_command.proofs.Settings.{stored-snoc}
+use Rattle.escpos_command.proofs.Settings.{graphics-snoc, stored-snoc}
 use Rattle.escpos_receipt.specs.Whole.{has_text, is_nonempty}
 use Rattle.escpos_paper.specs.Styles.{power_on, set_after, sets_character_set, sets_table, style, style_after}
 use Rattle.escpos_paper.specs.declared.style.Style.{Style}
@@ -18,7 +19,7 @@ use Rattle.escpos_paper.proofs.OneMore.{style-snoc}
 use Rattle.escpos_text.specs.Choices.{usual_tables}
 use Rattle.escpos_receipt.specs.declared.options.ReceiptOptions.{ReceiptOptions}
 use Rattle.escpos_receipt.specs.Entries.{at_table, chosen_by, encoding_for, in_force, line_state}
-use Rattle.escpos_receipt.specs.EntryCommands.{encoding_after, ends_where, force_after, line_after, line_step, stored_after, value_after}
+use Rattle.escpos_receipt.specs.EntryCommands.{encoding_after, ends_where, force_after, graphics_after, line_after, line_step, stored_after, value_after}
 
 -- ## Commands
 
@@ -65,14 +66,25 @@ flag_of false [] (y ∷ more) = refl
 flag_of false (x ∷ t) [] = refl
 flag_of false (x ∷ t) (y ∷ more) = refl
 
-ends_as : (cs : List Command) (c : Command) → ends_line cs c ≡ ends_where (is_some (stored cs)) c
+ends_as : (cs : List Command) (c : Command) → ends_line cs c ≡ ends_where (is_some (stored cs)) (is_some (stored_graphics cs)) c
 ends_as cs QrPrint = refl
+ends_as cs (GraphicsPrint fn) = refl
 ends_as cs c = refl
 
 stored_as : (o : Option (List ℕ)) (c : Command) → is_some (set_after sets_stored None o c) ≡ stored_after (is_some o) c
 stored_as o (QrStore bytes) = refl
 stored_as o Init = refl
 stored_as o c = refl
+
+stored_if : (fits : Bool) (picture : StoredPicture) (o : Option StoredPicture) → is_some (unwrap_or (if fits then Some (Some picture) else None) o) ≡ (fits || is_some o)
+stored_if true picture o = refl
+stored_if false picture o = refl
+
+graphics_as : (o : Option StoredPicture) (c : Command) → is_some (set_after sets_graphics None o c) ≡ graphics_after (is_some o) c
+graphics_as o (GraphicsStore picture) = stored_if (has_its_dots picture) picture o
+graphics_as o (GraphicsPrint fn) = refl
+graphics_as o Init = refl
+graphics_as o c = refl
 
 line_one : (options : ReceiptOptions) (cs : List Command) (c : Command) → line_state options (cs ++ c ∷ []) ≡ line_step (line_state options cs) c
 line_one options cs c =
@@ -81,7 +93,8 @@ line_one options cs c =
     let text = ap is_nonempty (text-snoc cs c) ∙ flag_of (ends_line cs c) (text cs) (characters c)
     ∙ ap (λ b. is_nonempty (characters c) || has_text cs && not b) (ends_as cs c) in
     let kept = ap is_some (stored-snoc cs c) ∙ stored_as (stored cs) c in
-    cc (s, text, kept)
+    let pictures = ap is_some (graphics-snoc cs c) ∙ graphics_as (stored_graphics cs) c in
+    cc (s, text, kept, pictures)
 
 line_from : (options : ReceiptOptions) (cs part : List Command) → line_state options (cs ++ part) ≡ line_after (line_state options cs) part
 line_from options cs [] = ap (line_state options) (append-nil cs)

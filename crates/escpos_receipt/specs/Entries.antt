@@ -19,7 +19,7 @@ use Rattle.escpos_command.specs.declared.setting.SettingKind.TheVariants as sets
 use Rattle.escpos_command.specs.Barcodes.{barcode, is_barcode}
 use Rattle.escpos_command.specs.QrCodes.{is_qr_data}
 use Rattle.escpos_command.specs.Rasters.{picture, is_raster, widest, highest}
-use Rattle.escpos_command.specs.Settings.{last_or, stored}
+use Rattle.escpos_command.specs.Settings.{last_or, stored, stored_graphics}
 use Rattle.escpos_command.specs.Text.{is_some}
 use Rattle.escpos_paper.specs.declared.style.Style.{Style}
 use Rattle.escpos_paper.specs.Styles.{power_on, style}
@@ -416,6 +416,7 @@ line_state options before = record {
   style = at_table power_on.table (style before);
   in_line = has_text before;
   stored = is_some (stored before);
+  graphics = is_some (stored_graphics before);
 }
 
 abbrev pub in_force : ReceiptOptions → List Data → List Command → InForce

@@ -14,6 +14,7 @@ use Rattle.escpos_receipt.specs.declared.entry.Meaning.{Meaning}
 use Rattle.escpos_receipt.specs.declared.entry.Meaning.TheVariants as means
 use Rattle.escpos_receipt.specs.Entries.{at_table, chosen_by, names_tables, qr_commands}
 use Rattle.escpos_paper.specs.Styles.{power_on, set_after, sets_character_set, sets_table, style_after}
+use Rattle.escpos_command.specs.Graphics.{has_its_dots}
 use Rattle.escpos_command.specs.Text.{characters, ends_text}
 use Rattle.escpos_text.specs.Choices.{usual_tables}
 use Rattle.escpos_receipt.specs.declared.in_force.InForce.{InForce}
@@ -57,23 +58,31 @@ encoding_after e d cs = with_choice (with_commands e cs) (chosen_by d)
 abbrev pub after_member : Encoding → Member → Data → List Command → Encoding
 after_member e m v cs = with_choice (with_commands e cs) (names_tables (Some (m, v)))
 
--- Whether a command ends the line, by whether data of QR codes are stored.
-abbrev pub ends_where : Bool → Command → Bool
-ends_where stored kind.QrPrint = stored
-ends_where stored c = ends_text c
+-- Whether a command ends the line, by whether data of QR codes are stored, and graphics.
+abbrev pub ends_where : Bool → Bool → Command → Bool
+ends_where stored graphics kind.QrPrint = stored
+ends_where stored graphics (kind.GraphicsPrint fn) = graphics
+ends_where stored graphics c = ends_text c
 
 abbrev pub stored_after : Bool → Command → Bool
 stored_after stored (kind.QrStore bytes) = true
 stored_after stored kind.Init = false
 stored_after stored c = stored
 
+abbrev pub graphics_after : Bool → Command → Bool
+graphics_after graphics (kind.GraphicsStore picture) = has_its_dots picture || graphics
+graphics_after graphics (kind.GraphicsPrint fn) = false
+graphics_after graphics kind.Init = false
+graphics_after graphics c = graphics
+
 -- What a line is like after one more command, and after these.
 abbrev pub line_step : LineState → Command → LineState
 line_step l c = record {
   width = l.width;
   style = at_table l.style.table (style_after l.style c);
-  in_line = is_nonempty (characters c) || l.in_line && not (ends_where l.stored c);
+  in_line = is_nonempty (characters c) || l.in_line && not (ends_where l.stored l.graphics c);
   stored = stored_after l.stored c;
+  graphics = graphics_after l.graphics c;
 }
 
 abbrev pub line_after : LineState → List Command → LineState
@@ -92,7 +101,7 @@ force_after_member f m v cs = record { encoding = after_member f.encoding m v cs
 abbrev pub start_of : ℕ → Option ℕ → InForce
 start_of width replacement = record {
   encoding = record { set = power_on.character_set; table = power_on.table; choice = usual_tables; replacement = replacement };
-  line = record { width = width; style = power_on; in_line = false; stored = false };
+  line = record { width = width; style = power_on; in_line = false; stored = false; graphics = false };
 }
 
 -- The text is this value in JSON.

@@ -5,6 +5,7 @@ use Rattle.escpos_command.specs.declared.command.Command.TheVariants as kind
 use Rattle.escpos_command.specs.declared.parameter.choices.Correction.{Correction}
 use Rattle.escpos_command.specs.Barcodes.{Barcode}
 use Rattle.escpos_command.specs.Settings.{stored}
+use Rattle.escpos_paper.specs.declared.style.Settings.{Settings}
 use Rattle.escpos_paper.specs.CheckDigit.{added_digit}
 use Rattle.escpos_paper.specs.Styles.{bar_style, qr_style}
 use Rattle.escpos_barcode.specs.Drawn.{drawn, with_added}
@@ -17,6 +18,10 @@ pub record CodeSettings : Type 0 where
   pub size : ℕ
   pub correction : Correction
   pub stored : Option (List ℕ)
+
+-- Those of all settings, with the data that is stored.
+abbrev pub code_settings_in : Settings → Option (List ℕ) → CodeSettings
+code_settings_in s data_now = record { module_width = s.bars.module_width; size = s.codes.size; correction = s.codes.correction; stored = data_now }
 
 -- Those in force after the commands.
 abbrev pub code_settings : List Command → CodeSettings

@@ -17,10 +17,11 @@ is_forbidden (kind.Status n) = true
 is_forbidden (kind.Mark id) = true
 is_forbidden _ = false
 
--- A barcode, a raster, a QR code or a cut would first print the text that is in the line.
+-- A barcode, a raster, graphics, a QR code or a cut would first print the text that is in the line.
 abbrev pub needs_empty_line : Command → Bool
 needs_empty_line (kind.Bars bars) = true
 needs_empty_line (kind.Raster raster) = true
+needs_empty_line (kind.GraphicsPrint fn) = true
 needs_empty_line kind.QrPrint = true
 needs_empty_line (kind.Cut cut) = true
 needs_empty_line (kind.OldCut b) = true

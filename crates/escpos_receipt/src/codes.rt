@@ -2,13 +2,13 @@
 //!
 //! `specs/Printable.antt` looks back in the list of commands; the code keeps the settings that decide it.
 
-ghost use Rattle.std.specs.Prelude.{◌≡◌, ◌↔◌, List, [], ◌++◌, IsTrue, false, MatchOption, length, ◌≤◌, flat_map};
+ghost use Rattle.std.specs.Prelude.{◌≡◌, ◌↔◌, List, [], ◌++◌, IsTrue, false, MatchOption, length, ◌≤◌, flat_map, option_map};
 ghost use Rattle.escpos_command.specs.declared.command.Command.{Command};
 ghost use Rattle.escpos_command.specs.declared.command.Command.TheVariants.{Set};
 ghost use Rattle.escpos_barcode.specs.QrSizes.{qr_modules};
 ghost use Rattle.escpos_receipt.specs.CodeSteps.{code_settings_after, kept};
 ghost use Rattle.escpos_receipt.specs.EntryCommands.{commands_in};
-ghost use Rattle.escpos_receipt.specs.Printable.{IsFirstLeftOut, IsPrintable, code_settings, has_bars, has_side, is_left_out};
+ghost use Rattle.escpos_receipt.specs.Printable.{IsFirstLeftOut, IsPrintable, code_settings, code_settings_in, has_bars, has_side, is_left_out};
 
 use crate::entry::Entry;
 use escpos_barcode::{qr_modules, runs};
@@ -118,6 +118,25 @@ fn has_side(width: LineWidth, size: u8, correction: Correction, content: &QrData
         Some(modules) => usize::from(size) * modules <= usize::from(width.dots()),
         None => false,
     }
+}
+
+/// Whether a printer with lines of this width, these settings and this data stored for QR codes leaves out the barcode or the QR code that
+/// the command would print. False for a command that prints none. Allocates nothing.
+pub fn is_left_out(
+    width: LineWidth,
+    settings: &Settings,
+    stored: Option<&QrData>,
+    command: &Command,
+) -> bool
+    ensures { result ≡ is_left_out width (code_settings_in settings.now (option_map (λ content. content.now) stored.entry)) command.now }
+{
+    let codes = Codes {
+        module_width: settings.bars.module_width,
+        size: settings.codes.size,
+        correction: settings.codes.correction,
+        stored,
+    };
+    codes.leaves_out(width, command)
 }
 
 /// The place of the first of the commands, counted from 0, whose barcode or QR code a printer with lines of this width leaves out.

@@ -31,6 +31,8 @@ pub struct LineState {
     pub in_line: bool,
     /// Whether data of QR codes are stored: only then does a print of them end the line.
     pub stored: bool,
+    /// The same for graphics.
+    pub graphics: bool,
 }
 
 impl InForce {
@@ -47,6 +49,7 @@ impl InForce {
                 style: Style::power_on(),
                 in_line: false,
                 stored: false,
+                graphics: false,
             },
         }
     }
@@ -73,12 +76,17 @@ impl LineState {
                 };
             }
             Command::QrStore(_) => self.stored = true,
+            Command::GraphicsStore(picture) => {
+                self.graphics = picture.has_its_dots() || self.graphics;
+            }
+            Command::GraphicsPrint(_) => self.graphics = false,
             Command::Init => {
                 self.style = Style {
                     table: self.style.table,
                     ..Style::power_on()
                 };
                 self.stored = false;
+                self.graphics = false;
             }
             _ => {}
         }
@@ -92,6 +100,7 @@ impl LineState {
         match command {
             Command::Char(_) => true,
             Command::QrPrint => self.in_line && !self.stored,
+            Command::GraphicsPrint(_) => self.in_line && !self.graphics,
             Command::LineFeed
             | Command::FeedLines(_)
             | Command::FeedUnits(_)

@@ -25,6 +25,7 @@ mod qr_code;
 mod receipt;
 mod spelled_text;
 
+pub use codes::is_left_out;
 pub use entry::Entry;
 pub use json::{JsonError, JsonFault, ReceiptText};
 pub use options::ReceiptOptions;

@@ -24,7 +24,7 @@ pub enum ReceiptFault {
     Forbidden { at: usize },
     /// 3: at the end there is text in the line that nothing prints.
     TextLeft,
-    /// 4: the command at this place is a barcode, a raster, a QR code or a cut, with text in the line before it.
+    /// 4: the command at this place is a barcode, a raster, a print of graphics or a QR code, or a cut, with text in the line before it.
     MidLine { at: usize },
     /// 9: in the bytes of the command at this place stands a real-time command (DLE EOT, DLE ENQ or DLE DC4), which a printer would
     /// carry out.
@@ -74,8 +74,8 @@ impl ReceiptFault {
     }
 }
 
-/// The commands of a receipt, one or more. There is no Init, status request or mark among them; no barcode, raster, QR code
-/// or cut comes while there is text in the line; no real-time command stands in their bytes; and at the end the line is empty.
+/// The commands of a receipt, one or more. There is no Init, status request or mark among them; no barcode, raster, graphics, QR
+/// code or cut come while there is text in the line; no real-time command stands in their bytes; and at the end the line is empty.
 /// (Profile.)
 #[derive(Debug, Drop)]
 pub struct Receipt {
@@ -182,6 +182,7 @@ pub fn needs_empty_line(command: &Command) -> bool
         command,
         Command::Bars(_)
             | Command::Raster(_)
+            | Command::GraphicsPrint(_)
             | Command::QrPrint
             | Command::Cut(_)
             | Command::OldCut(_)
@@ -195,7 +196,8 @@ fn is_printing(command: &Command) -> bool
     matches!(command, Command::Char(_))
 }
 
-// Whether the line is empty after the command: it prints the line or drops it. (A QR code comes with an empty line.)
+// Whether the line is empty after the command: it prints the line or drops it. (A QR code and graphics come with
+// an empty line.)
 fn ends_text(command: &Command) -> bool
     ensures { result ≡ ends_text command.now }
 {
@@ -207,6 +209,7 @@ fn ends_text(command: &Command) -> bool
             | Command::Init
             | Command::Bars(_)
             | Command::Raster(_)
+            | Command::GraphicsPrint(_)
             | Command::QrPrint
             | Command::Cut(_)
             | Command::OldCut(_)

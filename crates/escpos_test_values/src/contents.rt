@@ -1,6 +1,8 @@
 //! Commands with content, for whose memory an allocation may fail once.
 
-use escpos_command::{Bars, Command, Form, QrData, Raster, Symbology, TabStops};
+use escpos_command::{
+    Bars, Command, Form, Graphics, GraphicsForm, GraphicsHead, QrData, Raster, Symbology, TabStops,
+};
 use std::alloc::{AllocError, Global};
 
 /// The spelling of a barcode, EAN-8 in form A.
@@ -45,6 +47,22 @@ pub fn picture(alloc: Global) -> Option<Raster> {
 pub fn stored(alloc: Global) -> Option<QrData> {
     let data = bytes_at_last(alloc, b"AB").ok()?;
     QrData::new(data).ok()
+}
+
+/// The spelling of a store of graphics, two rows of 5 dots.
+pub const GRAPHICS: &[u8] = b"\x1D(L\x0C\x000p0\x01\x021\x05\x00\x02\x00\xF8\x08";
+
+/// The graphics that `GRAPHICS` stores; `None` if two allocations fail.
+pub fn stored_graphics(alloc: Global) -> Option<Graphics> {
+    let dots = bytes_at_last(alloc, b"\xF8\x08").ok()?;
+    let head = GraphicsHead {
+        form: GraphicsForm::Short,
+        across: 1,
+        down: 2,
+        width: 5,
+        height: 2,
+    };
+    Graphics::new(head, dots).ok()
 }
 
 /// What `tab_stops` spells.

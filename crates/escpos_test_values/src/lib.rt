@@ -13,8 +13,8 @@ mod values;
 pub use bytes::{Stream, append_mark, bytes_of, marks};
 pub use commands::{FIVE, MARK_35, five_commands_of, spell_to};
 pub use contents::{
-    BARCODE, BOTH, PICTURE, PRINT, STOPS, STORE, STREAM, barcode, is_spelled, picture, stored,
-    tab_stops,
+    BARCODE, BOTH, GRAPHICS, PICTURE, PRINT, STOPS, STORE, STREAM, barcode, is_spelled, picture,
+    stored, stored_graphics, tab_stops,
 };
 pub use table::spellings;
 pub use values::unlike;

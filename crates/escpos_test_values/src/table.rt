@@ -1,7 +1,7 @@
 //! The command table, a spelling for each row.
 
 // A spelling of each row of the command table, with a barcode of each symbology in each form.
-const SPELLINGS: [&[u8]; 71] = [
+const SPELLINGS: [&[u8]; 75] = [
     b"A",
     b"\x0A",
     b"\x0D",
@@ -73,6 +73,10 @@ const SPELLINGS: [&[u8]; 71] = [
     b"\x1DkB\x0801234565",
     b"\x1DkH\x03\x00a\x7F",
     b"\x1DkJ\x05(01)*",
+    b"\x1D(L\x0E\x000p0\x01\x021\x0C\x00\x02\x00\x1B@\x0A\xF0",
+    b"\x1D(L\x02\x0002",
+    b"\x1D(L\x02\x000\x02",
+    b"\x1D8L\x0C\x00\x00\x000p0\x02\x011\x05\x00\x02\x00\xF8\x08",
 ];
 
 /// A spelling of each row of the command table, with a barcode of each symbology in each form.

@@ -1,5 +1,5 @@
 -- A receipt with the line of a copy before it is a receipt.
-use Rattle.std.proofs.Common.{ℕ, suc, ◌≡◌, ◌⊎◌, inl, inr, Bool, true, false, IsTrue, None, List, [], ◌∷◌, ◌++◌, map, refl, sym, ◌∙◌, ap, subst, append_assoc, arith}
+use Rattle.std.proofs.Common.{ℕ, suc, ◌≡◌, ◌⊎◌, inl, inr, Bool, true, false, IsTrue, List, [], ◌∷◌, ◌++◌, map, refl, sym, ◌∙◌, ap, subst, append_assoc, arith}
 use Rattle.std.specs.Prelude.{◌==◌, if◌then◌else◌}
 use Rattle.std.proofs.lemmas.Bool.Decides.{nat_tests}
 use Rattle.std.specs.List.{AllByRecursion, AllPass}
@@ -9,10 +9,9 @@ use Rattle.escpos_command.specs.SettingTable.{table}
 use Rattle.escpos_command.specs.declared.setting.SettingKind.TheVariants as sets
 use Rattle.escpos_command.specs.declared.bytes.TheConstants.{DLE}
 use Rattle.escpos_command.specs.CommandTable.{spell, set_to}
-use Rattle.escpos_command.specs.Settings.{stored}
 use Rattle.escpos_command.specs.Text.{ends_later, text, text_after}
-use Rattle.escpos_command.proofs.Lines.{same_text}
-use Rattle.escpos_command.proofs.Settings.{stored-snoc}
+use Rattle.escpos_command.proofs.Lines.{StoreTheSame, same_text}
+use Rattle.escpos_command.proofs.Settings.{graphics-snoc, stored-snoc}
 use Rattle.escpos_receipt.specs.Whole.{MayFollow, Whole, is_forbidden, is_nonempty, needs_empty_line}
 use Rattle.escpos_real_time.specs.Scan.{holds}
 use Rattle.escpos_real_time.proofs.Holding.{found, finds, skip}
@@ -68,16 +67,23 @@ ends_in : (before : List Command) (bs : List ℕ) (rest : List Command) → ends
 ends_in before [] rest = refl
 ends_in before (b ∷ bs) rest = ends_in (before ++ Char b ∷ []) bs rest
 
+-- One more line feed, or character, stores nothing.
+after_feed : (before : List Command) → StoreTheSame before [] → StoreTheSame (before ++ LineFeed ∷ []) []
+after_feed before e = record { codes = stored-snoc before LineFeed ∙ e.codes; graphics = graphics-snoc before LineFeed ∙ e.graphics }
+
+after_char : (before : List Command) (b : ℕ) → StoreTheSame before [] → StoreTheSame (before ++ Char b ∷ []) []
+after_char before b e = record { codes = stored-snoc before (Char b) ∙ e.codes; graphics = graphics-snoc before (Char b) ∙ e.graphics }
+
 -- Characters and their line feed leave nothing for what follows, after commands that have stored nothing.
-text_after_chars : (before : List Command) (bs : List ℕ) (rest : List Command) → stored before ≡ None
+text_after_chars : (before : List Command) (bs : List ℕ) (rest : List Command) → StoreTheSame before []
     → text_after before (map Char bs ++ LineFeed ∷ rest) ≡ text rest
 text_after_chars before [] rest e =
     let longer = before ++ LineFeed ∷ [] in
-    nothing_either (ends_later longer rest) (text_after longer rest) ∙ same_text longer [] rest (stored-snoc before LineFeed ∙ e)
+    nothing_either (ends_later longer rest) (text_after longer rest) ∙ same_text longer [] rest (after_feed before e)
 text_after_chars before (b ∷ bs) rest e =
     let longer = before ++ Char b ∷ [] in
     ap (λ ends. (if ends then [] else b ∷ []) ++ text_after longer (map Char bs ++ LineFeed ∷ rest)) (ends_in longer bs rest)
-    ∙ text_after_chars longer bs rest (stored-snoc before (Char b) ∙ e)
+    ∙ text_after_chars longer bs rest (after_char before b e)
 
 text_after_line : (bs : List ℕ) (rest : List Command) → text (copy_line bs ++ rest) ≡ text rest
 text_after_line bs rest =
@@ -89,10 +95,10 @@ text_after_line bs rest =
     nothing_either (ends_later (set_to sets.Align 1 ∷ []) (set_to sets.Emphasis 1 ∷ body)) (text_after (set_to sets.Align 1 ∷ []) (set_to sets.Emphasis 1 ∷ body))
     ∙ nothing_either (ends_later begun body) (text_after begun body)
     ∙ ap (text_after begun) joined
-    ∙ text_after_chars begun bs (set_to sets.Emphasis 0 ∷ set_to sets.Align 0 ∷ rest) refl
+    ∙ text_after_chars begun bs (set_to sets.Emphasis 0 ∷ set_to sets.Align 0 ∷ rest) (record { codes = refl; graphics = refl })
     ∙ nothing_either (ends_later (set_to sets.Emphasis 0 ∷ []) (set_to sets.Align 0 ∷ rest)) (text_after (set_to sets.Emphasis 0 ∷ []) (set_to sets.Align 0 ∷ rest))
     ∙ nothing_either (ends_later ended rest) (text_after ended rest)
-    ∙ same_text ended [] rest refl
+    ∙ same_text ended [] rest (record { codes = refl; graphics = refl })
 
 follows_line : (bs : List ℕ) (rest : List Command) (c : Command) → MayFollow rest c → MayFollow (copy_line bs ++ rest) c
 follows_line bs rest c f = record { allowed = f.allowed; at_line_start = λ needs. ap is_nonempty (text_after_line bs rest) ∙ f.at_line_start needs }

@@ -16,7 +16,7 @@ const FIRST: Told = ("queued 1\n", Status::Good);
 const SECOND: Told = ("queued 2\n", Status::Good);
 
 // A stream that is taken, and once more, and what is sent of it.
-const TAKEN: [&[Step]; 7] = [
+const TAKEN: [&[Step]; 8] = [
     // python-escpos: ESC t before a text, ESC d 6 before a cut
     &[
         Step::QueueRaw(b"\x1b@\x1bt\x00Hello World\n\x1bd\x06\x1dV\x00", FIRST),
@@ -56,6 +56,15 @@ const TAKEN: [&[Step]; 7] = [
         Step::Again(1, SECOND),
         Step::DeliverFirst(b"[{\"line\":\"Hi\"}]\n"),
     ],
+    // a logo that is stored, and printed before the line
+    &[
+        Step::QueueRaw(
+            b"\x1b@\x1d(L\x0b\x000p0\x01\x011\x08\x00\x01\x00\xff\x1d(L\x02\x0002Hi\n",
+            FIRST,
+        ),
+        Step::Again(1, SECOND),
+        Step::DeliverFirst(b"\x1d(L\x0b\x000p0\x01\x011\x08\x00\x01\x00\xff\x1d(L\x02\x0002Hi\n"),
+    ],
     // a status asked for within a line
     &[
         Step::QueueRaw(b"\x1b@H\x10\x04\x01i\n", FIRST),
@@ -72,13 +81,18 @@ fn sent_as_they_are(rt: HostRuntime) {
 }
 
 // A stream that is no receipt, and the line that says why.
-const REFUSED: [(&[u8], &str); 16] = [
+const REFUSED: [(&[u8], &str); 18] = [
     (b"", "refused 1 Empty\n"),
     (b"\x1b@\x1da\x0f\x10\x04\x01\x1b@", "refused 1 Empty\n"),
     (b"Hi\n\x1b@Ho\n", "refused 2 Forbidden 3\n"),
     (b"\x1b@\x1d(H\x06\x00000000", "refused 2 Forbidden 2\n"),
     (b"\x1b@Hi", "refused 3 TextLeft\n"),
     (b"\x1b@\x10\x04\x01Hi\x1dV\x00", "refused 4 MidLine 7\n"),
+    (b"\x1b@Hi\x1d(L\x02\x0002\n", "refused 4 MidLine 4\n"),
+    (
+        b"\x1b@\x1d(L\x0d\x000p0\x01\x011\x08\x00\x03\x00\x10\x14\x01",
+        "refused 9 RealTime 2\n",
+    ),
     (
         b"\x1b@\x1dv0\x00\x03\x00\x01\x00\x10\x14\x01",
         "refused 9 RealTime 2\n",

@@ -1,7 +1,7 @@
 //! What the bytes of parameters mean, as types that don't depend on the parameters.
 
 ghost use Rattle.std.specs.Prelude.{◌≡◌, ◌<◌};
-ghost use Rattle.escpos_command.specs.Meanings.{has_bit, choice, face_of, alignment_of, hri_position_of, scale_of, correction_of, face_of_mode, magnified, underline_of_mode, size_width, size_height};
+ghost use Rattle.escpos_command.specs.Meanings.{has_bit, choice, face_of, alignment_of, hri_position_of, scale_of, scale_by, correction_of, face_of_mode, magnified, underline_of_mode, size_width, size_height};
 
 /// A font of the printer.
 #[derive(Clone, Copy, Debug, PartialEq, Eq)]
@@ -152,6 +152,18 @@ pub fn scale_of(choice: u8) -> Scale
         0 => Scale::Normal,
         1 => Scale::Wide,
         2 => Scale::Tall,
+        _ => Scale::Both,
+    }
+}
+
+/// The scale of the factors of graphics, across and down: 1, or 2 for twice as many dots.
+pub fn scale_by(across: u8, down: u8) -> Scale
+    ensures { result ≡ scale_by across down }
+{
+    match (across, down) {
+        (1, 1) => Scale::Normal,
+        (_, 1) => Scale::Wide,
+        (1, _) => Scale::Tall,
         _ => Scale::Both,
     }
 }

@@ -2,7 +2,7 @@
 
 ghost use Rattle.std.specs.Prelude.{◌≡◌, ℕ, IsTrue, Some, None};
 ghost use Rattle.std.specs.Option.{SomeIff};
-ghost use Rattle.escpos_command.specs.Parameters.{is_old_cut, is_byte, is_cut, is_pulse, is_status_kind};
+ghost use Rattle.escpos_command.specs.Parameters.{is_graphics_print, is_old_cut, is_byte, is_cut, is_pulse, is_status_kind};
 ghost use Rattle.escpos_command.specs.Meanings.{leaves_a_point, all_but_drawer, reports};
 
 use std::marker::Model;
@@ -237,6 +237,45 @@ impl OldCut {
         ensures range { IsTrue (is_old_cut self) }
     {
         self.letter
+    }
+}
+
+/// The function by which graphics that are stored are printed: 50, sent as 2 or 50. (Reference: GS ( L, function 50.)
+#[derive(Clone, Copy, Debug, PartialEq, Eq)]
+pub struct GraphicsFunction {
+    byte: u8,
+}
+
+impl Model for GraphicsFunction {
+    ghost use Rattle.std.specs.Prelude.{ℕ, IsTrue};
+    ghost use Rattle.escpos_command.specs.Parameters.{is_graphics_print};
+
+    ghost Value = { ℕ };
+
+    ghost view = { λ f. f.byte };
+
+    ghost invariant = { λ f. IsTrue (is_graphics_print f.byte) };
+
+    ghost inverse = { λ n. record { byte = n } };
+}
+
+impl GraphicsFunction {
+    /// The function of this byte; `None` for all but 2 and 50.
+    pub fn new(byte: u8) -> Option<Self>
+        ensures { SomeIff result (IsTrue (is_graphics_print byte)) byte }
+    {
+        match byte {
+            2 | 50 => Some(GraphicsFunction { byte }),
+            _ => None,
+        }
+    }
+
+    /// The byte as sent: 2 or 50.
+    pub fn byte(self) -> u8
+        ensures kept { result ≡ self }
+        ensures range { IsTrue (is_graphics_print self) }
+    {
+        self.byte
     }
 }
 

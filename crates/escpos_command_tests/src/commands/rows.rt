@@ -1,24 +1,15 @@
 //! The worked rows of the grammar, and each call on its happy path.
 
-use crate::support::commands::{characters, spell_from, spelled_len, write_to};
+use crate::support::commands::{characters, spell, spell_from, spelled_len, write_to};
 use escpos_command::{
     Answer, AutomaticStatus, BarFault, Bars, Character, CharsFault, Command, Correction,
-    FaultReason, FeedLines, Form, LONGEST_SPELLING, MOST_QR_DATA, MarkId, QrData, QrLevel, QrModel,
-    QrSize, Raster, RasterFault, Reporting, Scale, Symbology,
+    FaultReason, FeedLines, Form, MOST_QR_DATA, MarkId, QrData, QrLevel, QrModel, QrSize, Raster,
+    RasterFault, Reporting, Scale, Symbology,
 };
 use escpos_io::{Device, MemoryOut, Outgoing};
 use escpos_test_values::{FIVE, MARK_35, bytes_of, five_commands_of, spell_to};
 use std::alloc::Global;
 use std::process::Abort;
-
-// The commands spell these bytes.
-fn spell(rt: &impl Abort, alloc: Global, commands: &[Command], bytes: &[u8]) {
-    let mut out = Vec::new(alloc);
-    for command in commands {
-        spell_to(command, &mut out).expect(rt, "memory");
-    }
-    assert!(rt; out.as_slice() == bytes, "other bytes were spelled");
-}
 
 // The commands are written to a sink with this room: it ends so, and these bytes went out.
 fn write(
@@ -334,7 +325,7 @@ fn raster_refusals(rt: HostRuntime) {
 
 // The largest raster, of which each dot is set so.
 fn reads_at_places(rt: &impl Abort, raster: &Command) {
-    assert!(rt; spelled_len(raster) == LONGEST_SPELLING);
+    assert!(rt; spelled_len(raster) == 524_168);
     let mut tail = [0u8; 4];
     assert!(rt; spell_from(raster, 524_166, &mut tail) == 2);
     assert!(rt; spell_from(raster, 6, &mut tail) == 4);

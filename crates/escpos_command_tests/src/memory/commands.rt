@@ -2,7 +2,8 @@
 
 use escpos_command::{CharsFault, Command, chars_of, laws};
 use escpos_test_values::{
-    BARCODE, BOTH, PICTURE, STOPS, STORE, barcode, is_spelled, picture, stored, tab_stops,
+    BARCODE, BOTH, GRAPHICS, PICTURE, STOPS, STORE, barcode, is_spelled, picture, stored,
+    stored_graphics, tab_stops,
 };
 use std::alloc::Global;
 use std::process::Abort;
@@ -29,6 +30,9 @@ fn spell_refused(rt: HostRuntime) {
     out.clear();
     let command = Command::TabStops(tab_stops(rt.alloc()).expect(&rt, "tab stops"));
     spells(&rt, &command, &mut out, (b"", STOPS));
+    out.clear();
+    let command = Command::GraphicsStore(stored_graphics(rt.alloc()).expect(&rt, "graphics"));
+    spells(&rt, &command, &mut out, (b"", GRAPHICS));
 }
 
 // The characters of a text. Where memory is refused, they are asked for again.
@@ -74,6 +78,9 @@ fn clone_refused(rt: HostRuntime) {
     let command = Command::QrStore(stored(rt.alloc()).expect(&rt, "the data of a QR code"));
     assert!(&rt; is_spelled(&copy_at_last(&rt, &command), STORE));
     assert!(&rt; is_spelled(&command, STORE));
+    let command = Command::GraphicsStore(stored_graphics(rt.alloc()).expect(&rt, "graphics"));
+    assert!(&rt; is_spelled(&copy_at_last(&rt, &command), GRAPHICS));
+    assert!(&rt; is_spelled(&command, GRAPHICS));
 }
 
 // The same by the law.
@@ -107,6 +114,10 @@ fn contents_clone_refused(rt: HostRuntime) {
     let copy = copy_at_last(&rt, &data);
     assert!(&rt; is_spelled(&Command::QrStore(copy), STORE));
     assert!(&rt; is_spelled(&Command::QrStore(data), STORE));
+    let pictures = stored_graphics(rt.alloc()).expect(&rt, "graphics");
+    let copy = copy_at_last(&rt, &pictures);
+    assert!(&rt; is_spelled(&Command::GraphicsStore(copy), GRAPHICS));
+    assert!(&rt; is_spelled(&Command::GraphicsStore(pictures), GRAPHICS));
     let stops = tab_stops(rt.alloc()).expect(&rt, "tab stops");
     let copy = copy_at_last(&rt, &stops);
     assert!(&rt; is_spelled(&Command::TabStops(copy), STOPS));

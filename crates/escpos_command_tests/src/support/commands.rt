@@ -2,6 +2,7 @@
 
 use escpos_command::{CharsFault, Command, chars_of, write_commands};
 use escpos_io::{ByteOut, Device};
+use escpos_test_values::spell_to;
 use std::alloc::Global;
 use std::process::Abort;
 
@@ -25,4 +26,13 @@ pub fn spell_from(command: &Command, place: usize, out: &mut [u8]) -> usize {
 
 pub fn write_to<W: ByteOut>(commands: &[Command], sink: &mut W) -> Result<(), Device> {
     write_commands(commands, sink)
+}
+
+// The commands spell these bytes.
+pub fn spell(rt: &impl Abort, alloc: Global, commands: &[Command], bytes: &[u8]) {
+    let mut out = Vec::new(alloc);
+    for command in commands {
+        spell_to(command, &mut out).expect(rt, "memory");
+    }
+    assert!(rt; out.as_slice() == bytes, "other bytes were spelled");
 }

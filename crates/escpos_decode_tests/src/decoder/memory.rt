@@ -5,17 +5,21 @@ use escpos_command::Command;
 use escpos_decode::{DecodeFault, Decoder, Step};
 use std::process::Abort;
 
-// The spelling of a barcode, a raster, a store of a QR code or tab stops with this content, and the first and the last place at which memory is asked for.
+// The spelling of a barcode, a raster, a store of a QR code or of graphics, or tab stops with this content, and the first and the last place at which memory is asked for.
 type Growing = (&'static [u8], [usize; 2]);
 
 const CONTENT: &[u8] = b"0123456789ABCDEFGHIJ";
 
-const GROWING: [Growing; 5] = [
+const GROWING: [Growing; 6] = [
     (b"\x1Dk\x040123456789ABCDEFGHIJ\x00", [3, 22]),
     (b"\x1DkE\x140123456789ABCDEFGHIJ", [3, 3]),
     (b"\x1Dv0\x00\x02\x00\x0A\x000123456789ABCDEFGHIJ", [7, 7]),
     (b"\x1D(k\x17\x001P00123456789ABCDEFGHIJ", [7, 7]),
     (b"\x1BD0123456789ABCDEFGHIJ\x00", [2, 21]),
+    (
+        b"\x1D(L\x1E\x000p0\x01\x011\x10\x00\x0A\x000123456789ABCDEFGHIJ",
+        [14, 14],
+    ),
 ];
 
 fn growing_contents() -> &'static [Growing] {
@@ -61,7 +65,7 @@ fn push_growing(
     }
 }
 
-// Here each allocation succeeds: `rt try --test --fail-alloc N -- memory::allocations_fail` lets the Nth of the six fail.
+// Here each allocation succeeds: `rt try --test --fail-alloc N -- memory::allocations_fail` lets the Nth of the seven fail.
 #[test]
 fn allocations_fail(rt: HostRuntime) {
     for (spelling, places) in growing_contents() {
@@ -77,6 +81,7 @@ fn room_of(rt: &impl Abort, command: Command) -> usize {
         Command::Bars(bars) => bars.into_content(),
         Command::Raster(raster) => raster.into_dots(),
         Command::QrStore(stored) => stored.into_bytes(),
+        Command::GraphicsStore(graphics) => graphics.into_dots(),
         Command::TabStops(stops) => stops.into_columns(),
         _ => panic!(rt; "no content"),
     };

@@ -73,12 +73,22 @@ fn every_byte_in_barcodes_of_the_fourth_profile(rt: HostRuntime) {
 }
 
 #[test]
+fn every_byte_in_graphics(rt: HostRuntime) {
+    every_byte_follows(&rt, rt.alloc(), 71, 74);
+}
+
+#[test]
+fn every_byte_in_long_graphics(rt: HostRuntime) {
+    every_byte_follows(&rt, rt.alloc(), 74, 75);
+}
+
+#[test]
 fn all_spellings_in_one_stream(rt: HostRuntime) {
     let mut stream = Vec::new(rt.alloc());
     for spelling in spellings() {
         stream.extend_from_slice(spelling).expect(&rt, "memory");
     }
-    assert!(&rt; spellings().len() == 71);
+    assert!(&rt; spellings().len() == 75);
     agrees(&rt, rt.alloc(), &stream);
 }
 

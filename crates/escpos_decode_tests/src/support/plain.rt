@@ -3,10 +3,14 @@
 //! It keeps nothing between two bytes and looks at all of them each time, so it shares neither places nor counts with the
 //! decoder. The tests compare the two.
 
+use crate::support::plain_graphics::{
+    begins_graphics, begins_long_graphics, graphics_spelled, reason_in_graphics,
+};
 use escpos_command::{
     Bars, CR, Character, Command, Cut, DLE, EOT, ESC, FS, FaultReason, FeedLines, FeedUnits, Form,
-    GS, HT, LF, MarkId, OldCut, Position, PositionKind, Pulse, QrData, QrLevel, QrModel, QrSize,
-    Raster, Reporting, Setting, SettingKind, StatusKind, Symbology, TabStops,
+    GS, GraphicsForm, GraphicsFunction, HT, LF, MarkId, OldCut, Position, PositionKind, Pulse,
+    QrData, QrLevel, QrModel, QrSize, Raster, Reporting, Setting, SettingKind, StatusKind,
+    Symbology, TabStops,
 };
 use std::alloc::Global;
 use std::process::Abort;
@@ -49,6 +53,23 @@ fn command_spelled(rt: &impl Abort, alloc: Global, bytes: &[u8]) -> Option<Comma
         ),
         [GS, b'(', b'H', rest @ ..] => return mark_spelled(rt, rest),
         [GS, b'(', b'k', rest @ ..] => return qr_spelled(rt, alloc, rest),
+        [GS, b'(', b'L', 2, 0, b'0', n @ (2 | 50)] => Command::GraphicsPrint(GraphicsFunction::new(
+            *n,
+        ).expect(rt, "a parameter")),
+        [GS, b'(', b'L', a, b, rest @ ..] => return graphics_spelled(
+            rt,
+            alloc,
+            GraphicsForm::Short,
+            [*a, *b, 0, 0],
+            rest,
+        ),
+        [GS, b'8', b'L', a, b, c, d, rest @ ..] => return graphics_spelled(
+            rt,
+            alloc,
+            GraphicsForm::Long,
+            [*a, *b, *c, *d],
+            rest,
+        ),
         [GS, rest @ ..] => return spelled_by_group(rt, rest),
         _ => return None,
     })
@@ -207,6 +228,9 @@ fn begins_spelling(bytes: &[u8]) -> bool {
         [GS, b'v', b'0'] => true,
         [GS, b'v', b'0', 0..=3 | 48..=51, rest @ ..] => begins_raster(rest),
         [GS, b'(', b'k', rest @ ..] => begins_qr(rest),
+        [GS, b'8'] => true,
+        [GS, b'(', b'L', rest @ ..] => begins_graphics(rest),
+        [GS, b'8', b'L', rest @ ..] => begins_long_graphics(rest),
         [GS, rest @ ..] => begins_after_group(rest),
         _ => false,
     }
@@ -231,7 +255,21 @@ fn begins_after_escape(rest: &[u8]) -> bool {
 fn begins_after_group(rest: &[u8]) -> bool {
     match rest {
         [] => true,
-        [b'!' | b'(' | b'B' | b'H' | b'V' | b'a' | b'b' | b'f' | b'h' | b'k' | b'v' | b'w'] => true,
+        [
+            b'!'
+            | b'('
+            | b'8'
+            | b'B'
+            | b'H'
+            | b'V'
+            | b'a'
+            | b'b'
+            | b'f'
+            | b'h'
+            | b'k'
+            | b'v'
+            | b'w',
+        ] => true,
         [b'L' | b'W'] | [b'L' | b'W', _] => true,
         [b'(', b'H'] => true,
         [b'(', b'H', 6] => true,
@@ -265,9 +303,11 @@ fn begins_qr(rest: &[u8]) -> bool {
 fn reason_after(before: &[u8]) -> FaultReason {
     match before {
         [] => FaultReason::UnknownByte,
-        [_] | [GS, b'(' | b'v'] | [ESC, b'c'] => FaultReason::UnknownCommand,
+        [_] | [GS, b'(' | b'8' | b'v'] | [ESC, b'c'] => FaultReason::UnknownCommand,
         // cn and fn
         [GS, b'(', b'k', _, _] | [GS, b'(', b'k', _, _, _] => FaultReason::UnknownCommand,
+        [GS, b'(', b'L', rest @ ..] => reason_in_graphics(rest.len(), 2),
+        [GS, b'8', b'L', rest @ ..] => reason_in_graphics(rest.len(), 4),
         [GS, b'k', _, ..] => FaultReason::BadBarcode,
         [GS, b'v', _, _, ..] => FaultReason::BadSize,
         _ => FaultReason::BadParameter,

@@ -206,6 +206,22 @@ fn apply_refused(rt: HostRuntime) {
     plays_page(&rt, rt.alloc(), APPLY_REFUSED);
 }
 
+const APPLY_GRAPHICS_REFUSED: &[PageStep] = &[
+    PageStep::Graphics,
+    PageStep::PrintGraphics,
+    PageStep::PrintGraphics,
+    PageStep::Graphics,
+    PageStep::Graphics,
+    PageStep::PrintGraphics,
+    PageStep::Paper(b"raster left tall 1 2 f808\nraster left tall 1 2 f808\n"),
+];
+
+// Stores of graphics and prints, of which one prints nothing.
+#[test]
+fn apply_graphics_refused(rt: HostRuntime) {
+    plays_page(&rt, rt.alloc(), APPLY_GRAPHICS_REFUSED);
+}
+
 // Two lines of 42 characters, each of which the line after it has ended.
 const TWO_LINES: &[u8] = b"row left xxxxxxxxxxxxxxxxxxxxxxxxxxxxxxxxxxxxxxxxxx\nfeed 1\n\
     row left xxxxxxxxxxxxxxxxxxxxxxxxxxxxxxxxxxxxxxxxxx\nfeed 1\n";

@@ -3,9 +3,11 @@
 //! Only `plays_page` owns a page, and it is lent to a function for each kind of step.
 
 use crate::support::items::has_text;
-use escpos_command::{Command, LineWidth};
+use escpos_command::{Command, GraphicsFunction, LineWidth};
 use escpos_paper::Page;
-use escpos_test_values::{BARCODE, PICTURE, PRINT, STORE, barcode, is_spelled, picture, stored};
+use escpos_test_values::{
+    BARCODE, GRAPHICS, PICTURE, PRINT, STORE, barcode, is_spelled, picture, stored, stored_graphics,
+};
 use std::alloc::{AllocError, Global};
 use std::process::Abort;
 
@@ -22,6 +24,9 @@ pub enum PageStep {
     LineFeed,
     Bars,
     Raster,
+    /// The page takes a store of graphics, and then a print of them.
+    Graphics,
+    PrintGraphics,
     /// The page takes a line of 42 characters of 50.
     Text,
     /// What is printed is torn off.
@@ -53,6 +58,16 @@ fn does(page: &mut Page, alloc: Global, step: &PageStep) -> bool {
         PageStep::LineFeed => takes(page, Some(Command::LineFeed), b"\n"),
         PageStep::Bars => takes(page, barcode(alloc).map(Command::Bars), BARCODE),
         PageStep::Raster => takes(page, picture(alloc).map(Command::Raster), PICTURE),
+        PageStep::Graphics => takes(
+            page,
+            stored_graphics(alloc).map(Command::GraphicsStore),
+            GRAPHICS,
+        ),
+        PageStep::PrintGraphics => takes(
+            page,
+            GraphicsFunction::new(50).map(Command::GraphicsPrint),
+            b"\x1D(L\x02\x0002",
+        ),
         PageStep::Text => takes_text(page),
         PageStep::TearOff => tears_off(page),
         PageStep::Paper(text) => has_text(page.items(), text),

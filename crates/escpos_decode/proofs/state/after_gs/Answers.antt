@@ -15,6 +15,9 @@ returns-in-87 c = λ read. (moves state.Gs (state.PositionLow position.AreaWidth
 pub returns-in-40 : goal.returns-in-40
 returns-in-40 c = λ read. (moves state.Gs state.Bracket read c.args.byte 40 c.in-40.is refl refl refl refl refl, refl)
 
+pub returns-in-56 : goal.returns-in-56
+returns-in-56 c = λ read. (moves state.Gs state.LongLetter read c.args.byte 56 c.in-56.is refl refl (at_form (29 ∷ 56 ∷ []) refl) refl refl, refl)
+
 pub returns-in-86 : goal.returns-in-86
 returns-in-86 c = λ read. (moves state.Gs state.CutMode read c.args.byte 86 c.in-86.is refl refl (at_form (29 ∷ 86 ∷ []) refl) refl refl, refl)
 

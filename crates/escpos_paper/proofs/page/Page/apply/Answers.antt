@@ -28,7 +28,7 @@ invariant_of-self c = record {
   page_is =
       sheet_step c.self.invariant.line_dots _ _ c.self.invariant.kept c.self.invariant.commands c.args.command
       (sheet_made c.carry_out.new.self _ _ _ _ _ _ c.carry_out.ensures.line_width c.carry_out.ensures.items c.carry_out.ensures.settings
-      c.carry_out.ensures.stored c.carry_out.ensures.stops c.carry_out.ensures.line)
+      c.carry_out.ensures.storage c.carry_out.ensures.stops c.carry_out.ensures.line)
       c.self.invariant.page_is;
 }
 
@@ -36,13 +36,13 @@ pub returns-clause-taken : goal.returns-clause-taken
 returns-clause-taken c = λ width kept cs is.
     sheet_step width _ _ kept cs c.args.command
     (sheet_made c.carry_out.new.self _ _ _ _ _ _ c.carry_out.ensures.line_width c.carry_out.ensures.items c.carry_out.ensures.settings
-    c.carry_out.ensures.stored c.carry_out.ensures.stops c.carry_out.ensures.line)
+    c.carry_out.ensures.storage c.carry_out.ensures.stops c.carry_out.ensures.line)
     (ap (λ (page : PageView). page.sheet) c.self.view_is ∙ c.ready.ensures.same ∙ is)
 
 -- The same, below what was torn off.
 pub returns-clause-torn : goal.returns-clause-torn
 returns-clause-torn c = λ width gone cs is.
     let step = sheet_made c.carry_out.new.self _ _ _ _ _ _ c.carry_out.ensures.line_width c.carry_out.ensures.items c.carry_out.ensures.settings
-    c.carry_out.ensures.stored c.carry_out.ensures.stops c.carry_out.ensures.line in
+    c.carry_out.ensures.storage c.carry_out.ensures.stops c.carry_out.ensures.line in
     sheet_step width (below gone _) (below gone _) [] cs c.args.command (ap (below gone) step ∙ step_below gone _ c.args.command)
     (ap (below gone) (ap (λ (page : PageView). page.sheet) c.self.view_is ∙ c.ready.ensures.same) ∙ is)
