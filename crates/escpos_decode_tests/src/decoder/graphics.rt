@@ -123,9 +123,10 @@ fn length_counts(rt: HostRuntime) {
         let copy = dots.to_vec(rt.alloc()).expect(&rt, "memory");
         let whole = store(&rt, GraphicsForm::Short, (width, height), copy);
         let mut bytes = b"\x1D(L".to_vec(rt.alloc()).expect(&rt, "memory");
-        for part in [&[length, 0], head.as_slice(), &size, dots] {
-            bytes.extend_from_slice(part).expect(&rt, "memory");
-        }
+        bytes.extend_from_slice(&[length, 0]).expect(&rt, "memory");
+        bytes.extend_from_slice(head).expect(&rt, "memory");
+        bytes.extend_from_slice(&size).expect(&rt, "memory");
+        bytes.extend_from_slice(dots).expect(&rt, "memory");
         reads(&rt, rt.alloc(), &bytes, &whole);
         agrees(&rt, rt.alloc(), &bytes);
     }
